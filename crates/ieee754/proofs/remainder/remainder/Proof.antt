@@ -1,0 +1,31 @@
+-- `ieee754::remainder::remainder` meets its contract: r = x % (2.0 * PI) is exact, and beyond PI, which is half of 2.0 * PI, it takes one more multiple.
+-- Assumes nothing.
+use mathlib.Core.Path.{refl}
+use mathlib.Core.Bool.{true, false}
+use denote.Floats.{passes}
+use lib.Dec.{lit≤}
+use lib.IntN.{negsuc}
+use lib.Ieee.{binary32, neg, sub, fits, ofBits}
+use Rattle.ieee754.proofs.remainder.Half.{Divisor, beyond-half, within-half}
+use Rattle.ieee754.proofs.remainder.remainder.Statement.{statement}
+use Rattle.ieee754.proofs.remainder.remainder.Tie as tie
+
+-- 2.0 * PI is 13176795 / 2 ^ 21, and PI is 13176795 / 2 ^ 22
+by-tau : Divisor binary32 13176795 (negsuc 20) (negsuc 21)
+unfolding fits
+by-tau = record { fit = tt; odd = refl; long = lit≤ tt; half = refl }
+
+returns : tie.Need-returns
+unfolding ofBits neg sub
+returns c = beyond-half by-tau false (c .before .args .x) (passes _ (c .before .good .0 .1)) (c .if1 .taken)
+
+returns-2 : tie.Need-returns-2
+unfolding ofBits neg
+returns-2 c = beyond-half by-tau true (c .before .before .args .x) (passes _ (c .before .before .good .0 .1)) (c .if2 .taken)
+
+returns-3 : tie.Need-returns-3
+unfolding ofBits neg
+returns-3 c = within-half by-tau (c .before .before .args .x) (passes _ (c .before .before .good .0 .1)) (c .before .if1 .left) (c .if2 .left)
+
+pub remainder-spec : {M : Type 1} → statement M
+remainder-spec = tie.close (tie.spec returns returns-2 returns-3)
