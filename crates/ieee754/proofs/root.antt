@@ -4,3 +4,5 @@ pub mod Rounded
 pub mod Patterns
 pub mod Normal
 pub mod Positive
+pub mod Laws
+pub mod Cases

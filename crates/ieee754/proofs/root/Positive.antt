@@ -9,11 +9,12 @@ use mathlib.Core.Logic.{⊎-elim}
 use lib.IntN.{ℤ}
 use lib.Dec.{T, leb, ltb, eqb, ltb→lt}
 use lib.Pow.{pow-pos}
-use borrow.Author.Tests.{ltb-true, ltb-false}
+use borrow.Author.Tests.{ltb-true, ltb-false, lt-ltb}
 use lib.Ieee.{Float, nan, inf, fin, binary32, up, down, size, lt, fits, isNan, ofBits, toBits}
 use lib.Ieee.Digits.{size-le}
 use lib.Ieee.Fits.{kept-lt, up-pos, down-pos, and-r}
 use lib.Ieee.Exact.{HasValue}
+use lib.Ieee.Positive.{positive}
 use lib.Ieee.Bits.{ofBits-toBits}
 use Rattle.ieee754.specs.Root.{rootOf, squareRoot}
 
@@ -59,6 +60,14 @@ positive-bits (fin false (suc m) e) h p q = (
   above-zero (fin false (suc m) e) h p,
   lt-of-le-of-lt (le-of-eq (toBits-is (suc m) e)) (below-infinity (suc m * up e * 2 ^ 149 / down e) (finite-size m e h)),
 )
+
+-- the same by the library's test
+pub word-range : (x : Float) → T (positive x) → T (fits binary32 x) → (0 < toBits binary32 x) × (toBits binary32 x < 0x7f80_0000)
+unfolding ofBits lt
+word-range nan p h = absurd p
+word-range (inf s) p h = absurd p
+word-range (fin true m e) p h = absurd p
+word-range (fin false m e) p h = positive-bits (fin false m e) h (lt-ltb (0 * down e) (m * up e * 1) (omega (arith, mul-pos (ltb→lt 0 m p) (up-pos e)))) refl
 
 -- ---- which floats the tests leave: for each, its root
 
