@@ -1,0 +1,62 @@
+// Matrices by rows, and their products with a vector: each row's products summed from the left,
+// starting with the first one, zeros included.
+ghost use mathlib.Core.Path.{_≡_};
+ghost use Rattle.linear.specs.Matrix.{productOf3, productOf3x4, productOf4x3};
+use crate::vector::Vector3f;
+use crate::vector::Vector4f;
+
+pub struct Matrix3 {
+    pub r0: Vector3f,
+    pub r1: Vector3f,
+    pub r2: Vector3f,
+}
+
+pub struct Matrix3x4 {
+    pub r0: Vector4f,
+    pub r1: Vector4f,
+    pub r2: Vector4f,
+}
+
+pub struct Matrix4x3 {
+    pub r0: Vector3f,
+    pub r1: Vector3f,
+    pub r2: Vector3f,
+    pub r3: Vector3f,
+}
+
+impl Matrix3 {
+    pub fn mul(self, v: Vector3f) -> Vector3f
+        ensures { λ r. ⌜ r ≡ productOf3 self v ⌝ }
+    {
+        Vector3f {
+            x: self.r0.dot(v),
+            y: self.r1.dot(v),
+            z: self.r2.dot(v),
+        }
+    }
+}
+
+impl Matrix3x4 {
+    pub fn mul(self, v: Vector4f) -> Vector3f
+        ensures { λ r. ⌜ r ≡ productOf3x4 self v ⌝ }
+    {
+        Vector3f {
+            x: self.r0.dot(v),
+            y: self.r1.dot(v),
+            z: self.r2.dot(v),
+        }
+    }
+}
+
+impl Matrix4x3 {
+    pub fn mul(self, v: Vector3f) -> Vector4f
+        ensures { λ r. ⌜ r ≡ productOf4x3 self v ⌝ }
+    {
+        Vector4f {
+            x: self.r0.dot(v),
+            y: self.r1.dot(v),
+            z: self.r2.dot(v),
+            w: self.r3.dot(v),
+        }
+    }
+}

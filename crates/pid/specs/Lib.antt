@@ -1,0 +1,4 @@
+-- What the contracts of `pid` cite: pid.rs, axis by axis. Assumes nothing.
+pub mod Axis
+pub mod Axes
+pub mod Widths

@@ -1,0 +1,156 @@
+// `PidController<3>` and `PidController<4>`: an axis for each entry of a vector.
+ghost use mathlib.Core.Path.{_≡_};
+ghost use Rattle.pid.specs.Widths.{joined3, joined4, calculated3, calculated4, calculatedWithDerivative3, calculatedWithDerivative4, reset3, reset4};
+use crate::axis::PidAnswer;
+use crate::axis::PidController;
+use linear::vector::Vector3f;
+use linear::vector::Vector4f;
+
+pub struct PidController3 {
+    pub x: PidController,
+    pub y: PidController,
+    pub z: PidController,
+}
+
+pub struct PidController4 {
+    pub x: PidController,
+    pub y: PidController,
+    pub z: PidController,
+    pub w: PidController,
+}
+
+// What a call answers, beside the controller as the call leaves it.
+pub struct PidAnswer3 {
+    pub output: Vector3f,
+    pub controller: PidController3,
+}
+
+pub struct PidAnswer4 {
+    pub output: Vector4f,
+    pub controller: PidController4,
+}
+
+fn joined3(x: PidAnswer, y: PidAnswer, z: PidAnswer) -> PidAnswer3
+    ensures { λ r. ⌜ r ≡ joined3 x y z ⌝ }
+{
+    let cx = x.controller;
+    let cy = y.controller;
+    let cz = z.controller;
+    PidAnswer3 {
+        output: Vector3f {
+            x: x.output,
+            y: y.output,
+            z: z.output,
+        },
+        controller: PidController3 {
+            x: cx,
+            y: cy,
+            z: cz,
+        },
+    }
+}
+
+impl PidController3 {
+    pub fn calculate(self, setpoint: Vector3f, process_variable: Vector3f, dt_s: f32) -> PidAnswer3
+        ensures { λ r. ⌜ r ≡ calculated3 self setpoint «process_variable» «dt_s» ⌝ }
+    {
+        let x = self.x.calculate(setpoint.x, process_variable.x, dt_s);
+        let y = self.y.calculate(setpoint.y, process_variable.y, dt_s);
+        let z = self.z.calculate(setpoint.z, process_variable.z, dt_s);
+        joined3(x, y, z)
+    }
+
+    pub fn calculate_with_derivative(
+        self,
+        setpoint: Vector3f,
+        process_variable: Vector3f,
+        derivative: Vector3f,
+        dt_s: f32,
+    ) -> PidAnswer3
+        ensures { λ r. ⌜ r ≡ calculatedWithDerivative3 self setpoint «process_variable» derivative «dt_s» ⌝ }
+    {
+        let x = self.x
+            .calculate_with_derivative(setpoint.x, process_variable.x, derivative.x, dt_s);
+        let y = self.y
+            .calculate_with_derivative(setpoint.y, process_variable.y, derivative.y, dt_s);
+        let z = self.z
+            .calculate_with_derivative(setpoint.z, process_variable.z, derivative.z, dt_s);
+        joined3(x, y, z)
+    }
+
+    pub fn reset(self) -> PidController3
+        ensures { λ r. ⌜ r ≡ reset3 self ⌝ }
+    {
+        PidController3 {
+            x: self.x.reset(),
+            y: self.y.reset(),
+            z: self.z.reset(),
+        }
+    }
+}
+
+fn joined4(x: PidAnswer, y: PidAnswer, z: PidAnswer, w: PidAnswer) -> PidAnswer4
+    ensures { λ r. ⌜ r ≡ joined4 x y z w ⌝ }
+{
+    let cx = x.controller;
+    let cy = y.controller;
+    let cz = z.controller;
+    let cw = w.controller;
+    PidAnswer4 {
+        output: Vector4f {
+            x: x.output,
+            y: y.output,
+            z: z.output,
+            w: w.output,
+        },
+        controller: PidController4 {
+            x: cx,
+            y: cy,
+            z: cz,
+            w: cw,
+        },
+    }
+}
+
+impl PidController4 {
+    pub fn calculate(self, setpoint: Vector4f, process_variable: Vector4f, dt_s: f32) -> PidAnswer4
+        ensures { λ r. ⌜ r ≡ calculated4 self setpoint «process_variable» «dt_s» ⌝ }
+    {
+        let x = self.x.calculate(setpoint.x, process_variable.x, dt_s);
+        let y = self.y.calculate(setpoint.y, process_variable.y, dt_s);
+        let z = self.z.calculate(setpoint.z, process_variable.z, dt_s);
+        let w = self.w.calculate(setpoint.w, process_variable.w, dt_s);
+        joined4(x, y, z, w)
+    }
+
+    pub fn calculate_with_derivative(
+        self,
+        setpoint: Vector4f,
+        process_variable: Vector4f,
+        derivative: Vector4f,
+        dt_s: f32,
+    ) -> PidAnswer4
+        ensures { λ r. ⌜ r ≡ calculatedWithDerivative4 self setpoint «process_variable» derivative «dt_s» ⌝ }
+    {
+        let x = self.x
+            .calculate_with_derivative(setpoint.x, process_variable.x, derivative.x, dt_s);
+        let y = self.y
+            .calculate_with_derivative(setpoint.y, process_variable.y, derivative.y, dt_s);
+        let z = self.z
+            .calculate_with_derivative(setpoint.z, process_variable.z, derivative.z, dt_s);
+        let w = self.w
+            .calculate_with_derivative(setpoint.w, process_variable.w, derivative.w, dt_s);
+        joined4(x, y, z, w)
+    }
+
+    pub fn reset(self) -> PidController4
+        ensures { λ r. ⌜ r ≡ reset4 self ⌝ }
+    {
+        PidController4 {
+            x: self.x.reset(),
+            y: self.y.reset(),
+            z: self.z.reset(),
+            w: self.w.reset(),
+        }
+    }
+}

@@ -1,0 +1,132 @@
+// One axis of `PidController`.
+ghost use mathlib.Core.Path.{_≡_};
+ghost use Rattle.pid.specs.Axis.{antiJitter, limited, response, calculated, calculatedWithDerivative, resetOf, newController};
+use ieee754::bits::abs;
+use ieee754::clamp::clamp;
+
+// A row of the gain matrix: Kp, Ki, Kd and the bounds of the integrated error.
+pub struct Gain {
+    pub kp: f32,
+    pub ki: f32,
+    pub kd: f32,
+    pub ki_err_min: f32,
+    pub ki_err_max: f32,
+}
+
+// The error below which the output is scaled toward zero, if there is one.
+pub enum AntiJitterThresh {
+    Absent,
+    Below(f32),
+}
+
+// The bounds of the output, if there are any.
+pub enum OutputLimits {
+    Absent,
+    Between(f32, f32),
+}
+
+pub struct PidController {
+    pub gain: Gain,
+    pub anti_jitter_thresh: AntiJitterThresh,
+    pub output_limits: OutputLimits,
+    pub prev_error: f32,
+    pub integrated_error: f32,
+}
+
+// What a call answers, beside the controller as the call leaves it.
+pub struct PidAnswer {
+    pub output: f32,
+    pub controller: PidController,
+}
+
+// Below the threshold the output shrinks with the error.
+fn apply_anti_jitter(thresh: AntiJitterThresh, out: f32, err: f32) -> f32
+    ensures { λ r. ⌜ r ≡ antiJitter thresh out err ⌝ }
+{
+    match thresh {
+        AntiJitterThresh::Absent => out,
+        AntiJitterThresh::Below(t) => {
+            let size = abs(err);
+            if (t > 0.0) & (size < t) {
+                out * size / t
+            } else {
+                out
+            }
+        }
+    }
+}
+
+fn apply_output_limits(limits: OutputLimits, out: f32) -> f32
+    ensures { λ r. ⌜ r ≡ limited limits out ⌝ }
+{
+    match limits {
+        OutputLimits::Absent => out,
+        OutputLimits::Between(lo, hi) => clamp(out, lo, hi),
+    }
+}
+
+impl PidController {
+    // A controller with nothing remembered.
+    pub fn new(gain: Gain, thresh: AntiJitterThresh, limits: OutputLimits) -> PidController
+        ensures { λ r. ⌜ r ≡ newController gain thresh limits ⌝ }
+    {
+        PidController {
+            gain,
+            anti_jitter_thresh: thresh,
+            output_limits: limits,
+            prev_error: 0.0,
+            integrated_error: 0.0,
+        }
+    }
+
+    // What both calculations do with an error and its derivative.
+    fn respond(self, error: f32, derivative: f32, dt_s: f32) -> PidAnswer
+        ensures { λ r. ⌜ r ≡ response self error derivative «dt_s» ⌝ }
+    {
+        let gain = self.gain;
+        let thresh = self.anti_jitter_thresh;
+        let limits = self.output_limits;
+        let sum = self.integrated_error + error * dt_s;
+        let integrated = clamp(sum, gain.ki_err_min, gain.ki_err_max);
+        let pid = gain.kp * error + gain.ki * integrated + gain.kd * derivative;
+        let output = apply_output_limits(limits, apply_anti_jitter(thresh, pid, error));
+        let controller = PidController {
+            gain,
+            anti_jitter_thresh: thresh,
+            output_limits: limits,
+            prev_error: error,
+            integrated_error: integrated,
+        };
+        PidAnswer { output, controller }
+    }
+
+    pub fn calculate(self, setpoint: f32, process_variable: f32, dt_s: f32) -> PidAnswer
+        ensures { λ r. ⌜ r ≡ calculated self setpoint «process_variable» «dt_s» ⌝ }
+    {
+        let error = setpoint - process_variable;
+        let de_dt = (error - self.prev_error) / dt_s;
+        self.respond(error, de_dt, dt_s)
+    }
+
+    // Like `calculate`, with the derivative from outside.
+    pub fn calculate_with_derivative(
+        self,
+        setpoint: f32,
+        process_variable: f32,
+        derivative: f32,
+        dt_s: f32,
+    ) -> PidAnswer
+        ensures { λ r. ⌜ r ≡ calculatedWithDerivative self setpoint «process_variable» derivative «dt_s» ⌝ }
+    {
+        self.respond(setpoint - process_variable, derivative, dt_s)
+    }
+
+    pub fn reset(self) -> PidController
+        ensures { λ r. ⌜ r ≡ resetOf self ⌝ }
+    {
+        let mut out = self;
+        out.prev_error = 0.0;
+        out.integrated_error = 0.0;
+        out
+    }
+}
