@@ -49,11 +49,20 @@ loop-again c =
     let e = c .before .loop .e in
     (shifted m e (omega (arith, still (c .before))) ∙ c .before .loop .inv .0, omega arith, omega arith, omega arith)
 
-normal-root-requires : tie.Need-normal-root-requires Inv-loop μ-loop
-normal-root-requires c κs = ((c .loop-test .left, c .before .loop .inv .2), (omega (arith, still (c .before)), omega arith))
+add-root-of : tie.Need-add-root-of Inv-loop μ-loop
+add-root-of c = omega arith
+
+mul-root-of : tie.Need-mul-root-of Inv-loop μ-loop
+mul-root-of c = omega arith
+
+add-root-of-2 : tie.Need-add-root-of-2 Inv-loop μ-loop
+add-root-of-2 c = omega arith
+
+root-of-requires : tie.Need-root-of-requires Inv-loop μ-loop
+root-of-requires c κs = ((c .loop-test .left, c .before .loop .inv .2), (omega (arith, still (c .before)), omega arith))
 
 returns : tie.Need-returns Inv-loop μ-loop
-returns c = c .normal-root .ensures ∙ ap (rootOf binary32) (c .before .before .loop .inv .0)
+returns c = c .root-of .ensures ∙ ap (rootOf binary32) (c .before .before .loop .inv .0)
 
 pub subnormal-root-spec : {M : Type 1} → statement M
 subnormal-root-spec =
@@ -66,5 +75,8 @@ subnormal-root-spec =
     sub-e
     loop-less
     loop-again
-    normal-root-requires
+    add-root-of
+    mul-root-of
+    add-root-of-2
+    root-of-requires
     returns)
