@@ -2,7 +2,7 @@
 use Prim.Native.Nat.{ℕ, _^_}
 use mathlib.Core.Path.{_≡_, refl}
 use mathlib.Core.Bool.{false}
-use mathlib.Core.List.{List, [], _∷_}
+use mathlib.Core.List.{[], _∷_}
 use lib.IntN.{pos}
 use lib.Ieee.{Float, binary32, size, round, add, mul, div, neg, ofInt, ofBits}
 use Rattle.controller_params.specs.Params.{trackingValues, limitValues, bodyVelClampAngular, brakeMaxCurrentA, visionGateBaseRadiusM, visionActiveTimeoutS, visionClockStartS}

@@ -6,4 +6,5 @@ mod Values
 pub mod Minus
 pub mod Laws
 mod Half
+mod Small
 pub mod Cases

@@ -1,6 +1,6 @@
 -- IEEE 754 squareRoot: the exact root, rounded once to the format. Written for any format, as the kit's `add` and `mul` are. Assumes nothing.
 use Prim.Native.Nat.{ℕ, zero, suc, _+_, _*_, _/_, _^_}
-use mathlib.Core.Bool.{Bool, true, false, cond}
+use mathlib.Core.Bool.{true, false, cond}
 use lib.Dec.{leb, ltb}
 use lib.Ieee.{Float, nan, inf, fin, Format, low, up, down, size, round}
 

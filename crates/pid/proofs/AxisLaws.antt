@@ -9,7 +9,7 @@ use Rattle.pid.specs.declared.axis.PidController.{PidController}
 use Rattle.pid.specs.declared.axis.AntiJitterThresh.the-variants.{Below}
 use Rattle.pid.specs.declared.axis.OutputLimits.the-variants.{Between}
 use Rattle.pid.specs.Axis.{zero, antiJitter, limited, integrated, response, calculated, calculatedWithDerivative, newController, resetOf}
-use Rattle.pid.specs.Axes.{Ask, calculate, calculateWithDerivative, answer, Call, ask, reset, after}
+use Rattle.pid.specs.Axes.{calculate, calculateWithDerivative, Call, ask, reset, after}
 
 -- ---- the integrated error
 

@@ -4,7 +4,6 @@ use mathlib.Core.Bool.{Bool, false, cond}
 use lib.IntN.{pos}
 use lib.Dec.{ltb}
 use lib.Ieee.{Float, binary32, div, ofInt, ofBits}
-use Rattle.tick_length.specs.declared.TickLength.{TickLength}
 use Rattle.tick_length.specs.declared.TickLengthAnswer.{TickLengthAnswer}
 use Rattle.tick_length.specs.declared.TickLengthAnswer.the-variants.{Made, Refused}
 

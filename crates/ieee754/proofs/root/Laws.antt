@@ -1,21 +1,20 @@
 -- squareRoot held to the standard (`root-nearest`): for a finite x above zero the result is u * 2 ^ k units of 2 ^ -149, u having 24 digits, and x lies between the squares of the
 -- two points half of 2 ^ k, half a unit in the last place, below and above the result. Assumes nothing.
-use mathlib.Core.Path.{_≡_, refl, sym, ap, _∙_, subst}
-use mathlib.Core.Logic.{⊎-elim}
-use Prim.Native.Nat.{ℕ, zero, suc, _+_, _-_, _*_, _/_, _%_, _^_, _≤_, _<_}
-use native.Mathlib.Nat.{le-trans, le-of-eq, lt-of-lt-of-le, lt-of-le-of-lt, mul-assoc, mul-comm, mul-right-comm, mul-pos, mul-le-mul, mul-le-mul-right, mul-lt-mul-of-pos-left, mul-lt-mul-of-pos-right, one-mul, zero-lt-suc}
+use mathlib.Core.Path.{_≡_, sym, ap, _∙_, subst}
+use Prim.Native.Nat.{ℕ, _+_, _-_, _*_, _/_, _%_, _^_, _≤_, _<_}
+use native.Mathlib.Nat.{le-trans, le-of-eq, lt-of-lt-of-le, lt-of-le-of-lt, mul-assoc, mul-right-comm, mul-pos, mul-le-mul, mul-le-mul-right, mul-lt-mul-of-pos-left, mul-lt-mul-of-pos-right, one-mul, zero-lt-suc}
 use native.Mathlib.Omega.{arith}
 use native.Mathlib.Decide.{decLt}
-use mathlib.Core.Bool.{Bool, true, false}
-use lib.Dec.{T, lit≤, lit<, lt→ltb, ltb→lt}
+use mathlib.Core.Bool.{false}
+use lib.Dec.{T, lit≤}
 use lib.Pow.{pow-pos, pow-mono, shl-lt}
-use lib.Ieee.{Float, nan, inf, fin, binary32, lt, fits, ofBits, toBits, units}
+use lib.Ieee.{Float, binary32, fits, ofBits, toBits}
 use lib.Ieee.Exact.{HasValue, units-val}
 use lib.Ieee.Positive.{num, den, positive, value→cross}
 use lib.Ieee.Bits.{ofBits-toBits}
-use Rattle.ieee754.specs.Root.{wholeRoot, rootOf, squareRoot}
+use Rattle.ieee754.specs.Root.{wholeRoot, squareRoot}
 use Rattle.ieee754.proofs.root.Whole.{root-lt, whole-root}
-use Rattle.ieee754.proofs.root.Rounded.{Rooted, root-brackets}
+use Rattle.ieee754.proofs.root.Rounded.{root-brackets}
 use Rattle.ieee754.proofs.root.Patterns.{low-value, high-value}
 use Rattle.ieee754.proofs.root.Positive.{root-of-value, word-range}
 

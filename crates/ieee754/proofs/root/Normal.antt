@@ -2,13 +2,13 @@
 -- (`root-by-points`). u is half of a whole root, rounded up (`points`), or any number that passes one comparison on each side (`near-points`). Assumes nothing.
 use mathlib.Core.Path.{_≡_, refl, sym, ap, _∙_, subst}
 use Prim.Native.Nat.{ℕ, zero, suc, _+_, _-_, _*_, _/_, _%_, _^_, _≤_, _<_}
-use native.Mathlib.Nat.{le-trans, le-of-eq, lt-of-lt-of-le, lt-of-le-of-lt, mul-le-mul, mul-le-mul-right, mul-lt-mul-of-pos-right, mul-pos, mul-comm, mul-assoc, mul-left-comm, mul-mul-mul-comm, mul-sub, mul-add, mul-suc, suc-mul, add-mul, one-mul, mul-one, pow-succ'}
+use native.Mathlib.Nat.{le-trans, le-of-eq, lt-of-lt-of-le, lt-of-le-of-lt, mul-le-mul, mul-le-mul-right, mul-lt-mul-of-pos-right, mul-pos, mul-comm, mul-assoc, mul-left-comm, mul-mul-mul-comm, mul-sub, mul-add, mul-suc, suc-mul, add-mul, pow-succ'}
 use native.Mathlib.Omega.{arith}
 use lib.Arith.{lt-of-le-ne}
 use lib.Dec.{lit≤, lit<}
 use lib.Pow.{pow-pos, pow-add, pow-mono, shl-lt}
 use mathlib.Core.Bool.{false}
-use lib.Ieee.{Float, binary32, units, ofBits, fits}
+use lib.Ieee.{Float, binary32, units, ofBits}
 use lib.Ieee.Exact.{HasValue, units-val}
 use Rattle.ieee754.specs.Root.{rootOf}
 use Rattle.ieee754.proofs.root.Whole.{IsRoot, root-lt, square-lt, double-square}

@@ -1,6 +1,6 @@
 -- The bits of a value above zero, and the value of such bits, in units of 2 ^ -149. Assumes nothing.
 use mathlib.Core.Path.{_≡_, refl, sym, ap, _∙_, subst}
-use Prim.Native.Nat.{ℕ, zero, suc, _+_, _-_, _*_, _/_, _%_, _^_, _≤_, _<_}
+use Prim.Native.Nat.{ℕ, suc, _+_, _-_, _*_, _/_, _%_, _^_, _≤_, _<_}
 use native.Mathlib.Nat.{le-trans, le-of-eq, mul-le-mul-right, mul-div-cancel, mul-one, zero-add, lt-of-lt-of-le, mod-eq-of-lt, div-eq-of-lt}
 use native.Mathlib.Omega.{arith}
 use mathlib.Core.Bool.{true, false, not, true≢false}
@@ -9,7 +9,7 @@ use lib.Dec.{T, lit≤}
 use borrow.Author.Tests.{lt-leb, ne-eqb}
 use lib.Arith.{le→nltb}
 use lib.Pow.{pow-pos, pow-add, shl-lt}
-use lib.Ieee.{Float, nan, inf, fin, binary32, up, down, size, odd, fits, nanBits, ofFields, ofBits, toBits}
+use lib.Ieee.{Float, fin, binary32, up, down, size, odd, fits, nanBits, ofFields, ofBits, toBits}
 use lib.Ieee.Fits.{down-pos}
 use lib.Ieee.Exact.{HasValue, odd-sign}
 use lib.Ieee.Bits.{ofBits-toBits, nanBits-above}

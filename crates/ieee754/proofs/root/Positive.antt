@@ -1,10 +1,10 @@
 -- The square root of a float above zero and below infinity is `rootOf` of its size in units (`root-of-value`), what such a float's bits are (`word-range`), and the roots of the other floats.
 -- Assumes nothing.
-use mathlib.Core.Path.{_≡_, refl, sym, ap, _∙_, subst}
+use mathlib.Core.Path.{_≡_, refl, sym, ap, _∙_}
 use Prim.Native.Nat.{ℕ, zero, suc, _+_, _-_, _*_, _/_, _%_, _^_, _≤_, _<_}
-use native.Mathlib.Nat.{not-le-of-lt, zero-add, zero-lt-suc, lt-of-le-of-lt, lt-irrefl, lt-of-lt-of-le, le-of-eq, mul-assoc, mul-comm, mul-right-comm, mul-pos, mul-lt-mul-of-pos-right, mul-div-cancel, div-lt-iff-lt-mul, zero-mul, eq-zero-or-pos}
+use native.Mathlib.Nat.{not-le-of-lt, zero-add, zero-lt-suc, lt-of-le-of-lt, lt-irrefl, lt-of-lt-of-le, le-of-eq, mul-assoc, mul-right-comm, mul-pos, mul-lt-mul-of-pos-right, mul-div-cancel, div-lt-iff-lt-mul, zero-mul, eq-zero-or-pos}
 use native.Mathlib.Omega.{arith}
-use mathlib.Core.Bool.{Bool, true, false, not, _&&_, true≢false, false≢true}
+use mathlib.Core.Bool.{true, false, _&&_, true≢false, false≢true}
 use mathlib.Core.Logic.{⊎-elim}
 use lib.IntN.{ℤ, pos}
 use lib.Dec.{T, leb, ltb, eqb, ltb→lt}

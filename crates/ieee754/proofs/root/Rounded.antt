@@ -2,8 +2,8 @@
 -- enclose w (`root-brackets`); and an r whose two points enclose w strictly is the result (`root-is`). Assumes nothing.
 use mathlib.Core.Path.{_≡_, refl, sym, ap, _∙_, subst}
 use mathlib.Core.Logic.{_⊎_, inl, inr}
-use Prim.Native.Nat.{ℕ, zero, suc, _+_, _-_, _*_, _/_, _%_, _^_, _≤_, _<_, compare}
-use native.Mathlib.Nat.{le-trans, le-of-eq, le-of-lt, lt-of-lt-of-le, lt-of-le-of-lt, lt-of-not-le, not-le-of-lt, le-of-suc-le-suc, eq-or-lt-of-le, mul-le-mul, mul-le-mul-left, mul-comm, mul-assoc, mul-left-comm, mul-pos, mul-div-mul-right, le-div-iff-mul-le, div-lt-iff-lt-mul, zero-lt-suc, pow-succ'}
+use Prim.Native.Nat.{ℕ, suc, _+_, _-_, _*_, _/_, _%_, _^_, _≤_, _<_, compare}
+use native.Mathlib.Nat.{le-trans, le-of-eq, le-of-lt, lt-of-lt-of-le, lt-of-le-of-lt, lt-of-not-le, not-le-of-lt, mul-le-mul, mul-le-mul-left, mul-comm, mul-assoc, mul-left-comm, mul-pos, mul-div-mul-right, le-div-iff-mul-le, div-lt-iff-lt-mul, zero-lt-suc, pow-succ'}
 use native.Mathlib.Omega.{arith}
 use mathlib.Core.Bool.{Bool, true, false, not, cond}
 use lib.Dec.{T, ltb, ltb→lt, nltb→le}
@@ -13,7 +13,7 @@ use lib.Ieee.Digits.{size-lt, size-le, size-reaches}
 use lib.Ieee.Fits.{round-is, round-fits, nearest-le, two, two-le-pos}
 use lib.Ieee.Nearest.{closest, closest-same, nearest-ge}
 use Rattle.ieee754.specs.Root.{wholeRoot, sticky, rootOf}
-use Rattle.ieee754.proofs.root.Whole.{IsRoot, root-lt, root-le, double-square, whole-root}
+use Rattle.ieee754.proofs.root.Whole.{IsRoot, root-lt, double-square, whole-root}
 use Rattle.ieee754.proofs.Closest.{closest-near, closest-is}
 
 -- ---- what `rootOf` hands to `round`

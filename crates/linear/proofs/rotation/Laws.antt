@@ -3,7 +3,6 @@ use mathlib.Core.Path.{_≡_, refl}
 use mathlib.Core.Bool.{Bool, true, false}
 use lib.Ieee.{Float, nan, inf, fin, binary32, add, mul, neg, ofBits}
 use Rattle.linear.specs.declared.vector.Vector3f.{Vector3f}
-use Rattle.linear.specs.declared.matrix.Matrix3.{Matrix3}
 use Rattle.linear.specs.Vector.{zeroFloat, dotOf, addProducts}
 use Rattle.linear.specs.Matrix.{productOf3}
 use Rattle.linear.specs.Rotation.{oneFloat, rotation, toGlobal, toLocal}

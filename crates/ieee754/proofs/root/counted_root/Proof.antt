@@ -1,6 +1,6 @@
 -- `ieee754::root::counted_root` meets its contract: the half of the whole root, rounded up, has the two points of `Normal.antt`. Assumes nothing.
 use mathlib.Core.Path.{_≡_, sym}
-use Prim.Native.Nat.{ℕ, _+_, _-_, _*_, _/_, _%_, _^_, _≤_, _<_}
+use Prim.Native.Nat.{ℕ, _+_, _-_, _*_, _/_, _^_, _≤_, _<_}
 use native.Mathlib.Nat.{lt-of-le-of-lt}
 use native.Mathlib.Omega.{arith}
 use Rattle.ieee754.proofs.root.Whole.{root-lt}

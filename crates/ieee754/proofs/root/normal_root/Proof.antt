@@ -1,6 +1,6 @@
 -- `ieee754::root::normal_root` meets its contract: the root of the bits' value in units. Assumes nothing.
 use mathlib.Core.Path.{_≡_, sym, ap, _∙_}
-use Prim.Native.Nat.{ℕ, _+_, _-_, _*_, _/_, _%_, _^_, _≤_, _<_}
+use Prim.Native.Nat.{ℕ, _+_, _-_, _*_, _/_, _%_, _^_, _<_}
 use native.Mathlib.Nat.{add-comm, mul-assoc, mul-pos}
 use native.Mathlib.Omega.{arith}
 use lib.Pow.{pow-add, pow-pos}

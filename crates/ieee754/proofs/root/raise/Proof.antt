@@ -4,8 +4,6 @@ use Prim.Native.Nat.{ℕ, _+_, _-_, _*_, _^_, _≤_, _<_}
 use native.Mathlib.Nat.{lt-of-lt-of-le, lt-of-le-of-lt}
 use native.Mathlib.Omega.{arith}
 use lib.Dec.{lit≤}
-use mir.Syntax.{w64}
-use mir.Val.{Fits}
 use Rattle.ieee754.proofs.root.Whole.{root-lt, square-lt}
 use Rattle.ieee754.proofs.root.raise.Statement.{statement}
 use Rattle.ieee754.proofs.root.raise.Tie as tie

@@ -4,7 +4,7 @@ use mathlib.Core.Bool.{Bool, true, false, not, _&&_}
 use Prim.Native.Nat.{ℕ, _^_, _≤_, _<_}
 use denote.Floats.{passes}
 use lib.Dec.{T, leb, ltb, leb→le, ltb→lt, nltb→le, le→leb}
-use lib.Ieee.{Float, binary32, div, fits, ofBits, toBits}
+use lib.Ieee.{binary32, div, fits, ofBits}
 use lib.Ieee.Fits.{and-l, and-r}
 use lib.Ieee.Bits.{ofBits-toBits, is-true}
 use borrow.Author.Needs.{needs}

@@ -1,7 +1,7 @@
 -- `ieee754::root::subnormal_root` meets its contract. The invariant: m * 2 ^ (e + 23) stays b * 2 ^ 149, m stays below 2 ^ 24, and e falls by one for each digit that m gains.
 -- The measure is e. Assumes nothing.
 use mathlib.Core.Path.{_≡_, refl, sym, ap, _∙_}
-use Prim.Native.Nat.{ℕ, suc, _+_, _-_, _*_, _^_, _≤_, _<_}
+use Prim.Native.Nat.{ℕ, _+_, _-_, _*_, _^_, _≤_, _<_}
 use native.Mathlib.Nat.{le-trans, le-of-eq, lt-of-not-le, not-le-of-lt, mul-assoc, mul-le-mul-right, one-mul, pow-succ'}
 use native.Mathlib.Omega.{arith}
 use lib.Pow.{pow-mono, shl-lt}
