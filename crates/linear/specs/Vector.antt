@@ -1,6 +1,7 @@
 -- Sums, differences, multiples and dot products of vectors, every step rounded to binary32. Assumes nothing.
 use mathlib.Core.List.{List, [], _∷_}
 use lib.Ieee.{Float, binary32, add, sub, mul, ofBits}
+use Rattle.linear.specs.declared.vector.Vector2f.{Vector2f}
 use Rattle.linear.specs.declared.vector.Vector3f.{Vector3f}
 use Rattle.linear.specs.declared.vector.Vector4f.{Vector4f}
 use Rattle.linear.specs.declared.vector.Vector6f.{Vector6f}
@@ -10,6 +11,9 @@ use Rattle.linear.specs.declared.vector.Vector6f.{Vector6f}
 -- 0.0
 abbrev pub zeroFloat : Float
 zeroFloat = ofBits binary32 0
+
+unfoldable pub zeros2 : Vector2f
+zeros2 = record { x = zeroFloat; y = zeroFloat }
 
 unfoldable pub zeros3 : Vector3f
 zeros3 = record { x = zeroFloat; y = zeroFloat; z = zeroFloat }

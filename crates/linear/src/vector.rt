@@ -1,6 +1,11 @@
 // Vectors of floats.
 ghost use mathlib.Core.Path.{_≡_};
-ghost use Rattle.linear.specs.Vector.{zeros3, zeros4, zeros6, entries3, entries4, sumOf, differenceOf, scaled, dotOf};
+ghost use Rattle.linear.specs.Vector.{zeros2, zeros3, zeros4, zeros6, entries3, entries4, sumOf, differenceOf, scaled, dotOf};
+
+pub struct Vector2f {
+    pub x: f32,
+    pub y: f32,
+}
 
 pub struct Vector3f {
     pub x: f32,
@@ -19,6 +24,14 @@ pub struct Vector4f {
 pub struct Vector6f {
     pub pose: Vector3f,
     pub twist: Vector3f,
+}
+
+impl Vector2f {
+    pub fn zeros() -> Self
+        ensures { λ r. ⌜ r ≡ zeros2 ⌝ }
+    {
+        Self { x: 0.0, y: 0.0 }
+    }
 }
 
 impl Vector3f {

@@ -4,7 +4,7 @@ use mathlib.Core.Bool.{cond, _&&_}
 use lib.Ieee.{Float, binary32, ofBits, add, sub, mul, div, lt}
 use Rattle.ieee754.specs.Magnitude.{magnitude}
 use Rattle.ieee754.specs.Clamp.{clampBetween}
-use Rattle.pid.specs.declared.axis.Gain.{Gain}
+use Rattle.controller_params.specs.declared.PidGains.{PidGains}
 use Rattle.pid.specs.declared.axis.AntiJitterThresh.{AntiJitterThresh}
 use Rattle.pid.specs.declared.axis.AntiJitterThresh.the-variants as Thresh
 use Rattle.pid.specs.declared.axis.OutputLimits.{OutputLimits}
@@ -31,7 +31,7 @@ unfoldable pub integrated : PidController → Float → Float → Float
 integrated c e dt = clampBetween (add binary32 (c .«integrated_error») (mul binary32 e dt)) (c .gain .«ki_err_min») (c .gain .«ki_err_max»)
 
 -- p + i + d
-unfoldable pub weighted : Gain → Float → Float → Float → Float
+unfoldable pub weighted : PidGains → Float → Float → Float → Float
 weighted g e i d = add binary32 (add binary32 (mul binary32 (g .kp) e) (mul binary32 (g .ki) i)) (mul binary32 (g .kd) d)
 
 -- the answer to an error e with the derivative d
@@ -58,7 +58,7 @@ calculated c setpoint process dt =
     response c e (div binary32 (sub binary32 e (c .«prev_error»)) dt) dt
 
 -- a controller that remembers nothing
-unfoldable pub newController : Gain → AntiJitterThresh → OutputLimits → PidController
+unfoldable pub newController : PidGains → AntiJitterThresh → OutputLimits → PidController
 newController g t l = record { gain = g; «anti_jitter_thresh» = t; «output_limits» = l; «prev_error» = zero; «integrated_error» = zero }
 
 -- `reset`: only what is remembered changes

@@ -1,17 +1,9 @@
 // One axis of `PidController`.
 ghost use mathlib.Core.Path.{_≡_};
 ghost use Rattle.pid.specs.Axis.{antiJitter, limited, response, calculated, calculatedWithDerivative, resetOf, newController};
+use controller_params::PidGains;
 use ieee754::bits::abs;
 use ieee754::clamp::clamp;
-
-// A row of the gain matrix: Kp, Ki, Kd and the bounds of the integrated error.
-pub struct Gain {
-    pub kp: f32,
-    pub ki: f32,
-    pub kd: f32,
-    pub ki_err_min: f32,
-    pub ki_err_max: f32,
-}
 
 // The error below which the output is scaled toward zero, if there is one.
 pub enum AntiJitterThresh {
@@ -26,7 +18,7 @@ pub enum OutputLimits {
 }
 
 pub struct PidController {
-    pub gain: Gain,
+    pub gain: PidGains,
     pub anti_jitter_thresh: AntiJitterThresh,
     pub output_limits: OutputLimits,
     pub prev_error: f32,
@@ -67,7 +59,7 @@ fn apply_output_limits(limits: OutputLimits, out: f32) -> f32
 
 impl PidController {
     // A controller with nothing remembered.
-    pub fn new(gain: Gain, thresh: AntiJitterThresh, limits: OutputLimits) -> PidController
+    pub fn new(gain: PidGains, thresh: AntiJitterThresh, limits: OutputLimits) -> PidController
         ensures { λ r. ⌜ r ≡ newController gain thresh limits ⌝ }
     {
         PidController {
