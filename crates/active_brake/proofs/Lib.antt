@@ -1,0 +1,2 @@
+-- What is shown of the brake's definitions. Assumes nothing.
+pub mod Cases
