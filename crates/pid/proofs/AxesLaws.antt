@@ -1,12 +1,12 @@
--- Any number of axes: they do not touch each other, and after any list of calls each integrated error is within its bounds. Assumes nothing.
+-- Any number of axes: they do not touch each other, after any list of calls each integrated error is within its bounds, and every output is within its limits. Assumes nothing.
 use mathlib.Core.Path.{_≡_, refl, sym, ap, _∙_}
 use Prim.Native.Nat.{ℕ, zero, suc, _<_}
 use native.Mathlib.Nat.{le-of-suc-le-suc, not-suc-le-zero, lt-of-lt-of-le, le-of-eq}
 use mathlib.Core.List.{List, [], _∷_, map}
 use lib.ListN.{getD, length}
 use Rattle.pid.specs.declared.axis.PidController.{PidController}
-use Rattle.pid.specs.Axes.{Call, reset, after, afterCall, afterCalls, Each}
-use Rattle.pid.proofs.AxisLaws.{Bounded, after-bounded}
+use Rattle.pid.specs.Axes.{Ask, answers, Call, reset, after, afterCall, afterCalls, Each}
+use Rattle.pid.proofs.AxisLaws.{Bounded, after-bounded, Ordered, Inside, answer-inside}
 
 -- ---- bounds
 
@@ -20,6 +20,14 @@ pub integrated-bounded : (calls : List (List Call)) (cs : List PidController) �
 unfolding afterCalls
 integrated-bounded [] cs b = b
 integrated-bounded (a ∷ parts) cs b = integrated-bounded parts (afterCall a cs) (call-bounded a cs b)
+
+-- ---- limits: of every axis whose limits are in order, the output is within them
+
+pub outputs-limited : (parts : List Ask) (cs : List PidController) → Each (λ c. Ordered (c .«output_limits»)) cs → Each (λ a. Inside (a .controller .«output_limits») (a .output)) (answers parts cs)
+unfolding answers
+outputs-limited [] cs h = tt
+outputs-limited (a ∷ parts) [] h = tt
+outputs-limited (a ∷ parts) (c ∷ cs) h = (answer-inside a c (h .0), outputs-limited parts cs (h .1))
 
 -- ---- the axes do not touch each other
 

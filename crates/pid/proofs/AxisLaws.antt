@@ -7,9 +7,10 @@ use Rattle.ieee754.specs.Magnitude.{magnitude}
 use Rattle.ieee754.proofs.clamp.Laws.{clamp-nan, clamp-between}
 use Rattle.pid.specs.declared.axis.PidController.{PidController}
 use Rattle.pid.specs.declared.axis.AntiJitterThresh.the-variants.{Below}
-use Rattle.pid.specs.declared.axis.OutputLimits.the-variants.{Between}
+use Rattle.pid.specs.declared.axis.OutputLimits.{OutputLimits}
+use Rattle.pid.specs.declared.axis.OutputLimits.the-variants.{Absent, Between}
 use Rattle.pid.specs.Axis.{zero, antiJitter, limited, integrated, response, calculated, calculatedWithDerivative, newController, resetOf}
-use Rattle.pid.specs.Axes.{calculate, calculateWithDerivative, Call, ask, reset, after}
+use Rattle.pid.specs.Axes.{Ask, answer, calculate, calculateWithDerivative, Call, ask, reset, after}
 
 -- ---- the integrated error
 
@@ -45,10 +46,25 @@ reset-new c = refl
 
 -- ---- the output
 
+-- the limits are in order, and an output is within them, where there are any
+abbrev pub Ordered : OutputLimits → Type 0
+Ordered Absent = Unit {0}
+Ordered (Between lo hi) = T (le lo hi)
+
+abbrev pub Inside : OutputLimits → Float → Type 0
+Inside Absent out = Unit {0}
+Inside (Between lo hi) out = T (le lo out) × T (le out hi)
+
 -- with limits, every output is within them
-pub limited-between : (lo hi out : Float) → T (le lo hi) → T (le lo (limited (Between lo hi) out)) × T (le (limited (Between lo hi) out) hi)
+limited-inside : (l : OutputLimits) (out : Float) → Ordered l → Inside l (limited l out)
 unfolding limited
-limited-between lo hi out h = clamp-between out lo hi h
+limited-inside Absent out h = tt
+limited-inside (Between lo hi) out h = clamp-between out lo hi h
+
+pub answer-inside : (a : Ask) (c : PidController) → Ordered (c .«output_limits») → Inside (answer a c .controller .«output_limits») (answer a c .output)
+unfolding calculated calculatedWithDerivative response
+answer-inside (calculate s v dt) c h = limited-inside (c .«output_limits») _ h
+answer-inside (calculateWithDerivative s v d dt) c h = limited-inside (c .«output_limits») _ h
 
 -- and NaN gives the lower one
 pub limited-nan : (lo hi : Float) → limited (Between lo hi) nan ≡ lo

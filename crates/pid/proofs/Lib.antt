@@ -1,3 +1,4 @@
 -- The laws of the PID controller. Assumes nothing.
 pub mod AxisLaws
 pub mod AxesLaws
+pub mod WidthsLaws

@@ -23,6 +23,18 @@ abbrev pub after : Call → PidController → PidController
 after (ask a) c = answer a c .controller
 after reset c = resetOf c
 
+-- what `calculate` and `calculate_with_derivative` ask of each axis, by the vectors' entries
+abbrev pub asks : List Float → List Float → Float → List Ask
+asks [] vs dt = []
+asks (s ∷ ss) [] dt = []
+asks (s ∷ ss) (v ∷ vs) dt = calculate s v dt ∷ asks ss vs dt
+
+abbrev pub asksWithDerivative : List Float → List Float → List Float → Float → List Ask
+asksWithDerivative [] vs ds dt = []
+asksWithDerivative (s ∷ ss) [] ds dt = []
+asksWithDerivative (s ∷ ss) (v ∷ vs) [] dt = []
+asksWithDerivative (s ∷ ss) (v ∷ vs) (d ∷ ds) dt = calculateWithDerivative s v d dt ∷ asksWithDerivative ss vs ds dt
+
 -- every axis answers its own part
 unfoldable pub answers : List Ask → List PidController → List PidAnswer
 answers [] cs = []

@@ -1,7 +1,9 @@
 -- The controllers of three and four axes: each axis answers its own entries. That this is the list of `Axes.antt` at lengths three and four is a law. Assumes nothing.
+use mathlib.Core.List.{List, [], _∷_}
 use lib.Ieee.{Float}
 use Rattle.linear.specs.declared.vector.Vector3f.{Vector3f}
 use Rattle.linear.specs.declared.vector.Vector4f.{Vector4f}
+use Rattle.pid.specs.declared.axis.PidController.{PidController}
 use Rattle.pid.specs.declared.axis.PidAnswer.{PidAnswer}
 use Rattle.pid.specs.declared.axes.PidController3.{PidController3}
 use Rattle.pid.specs.declared.axes.PidController4.{PidController4}
@@ -43,3 +45,26 @@ reset3 c = record { x = resetOf (c .x); y = resetOf (c .y); z = resetOf (c .z) }
 
 unfoldable pub reset4 : PidController4 → PidController4
 reset4 c = record { x = resetOf (c .x); y = resetOf (c .y); z = resetOf (c .z); w = resetOf (c .w) }
+
+-- ---- as lists of axes
+
+abbrev pub axes3 : PidController3 → List PidController
+axes3 c = c .x ∷ c .y ∷ c .z ∷ []
+
+abbrev pub axes4 : PidController4 → List PidController
+axes4 c = c .x ∷ c .y ∷ c .z ∷ c .w ∷ []
+
+abbrev pub answers3 : PidAnswer3 → List PidAnswer
+answers3 a =
+    record { output = a .output .x; controller = a .controller .x }
+    ∷ record { output = a .output .y; controller = a .controller .y }
+    ∷ record { output = a .output .z; controller = a .controller .z }
+    ∷ []
+
+abbrev pub answers4 : PidAnswer4 → List PidAnswer
+answers4 a =
+    record { output = a .output .x; controller = a .controller .x }
+    ∷ record { output = a .output .y; controller = a .controller .y }
+    ∷ record { output = a .output .z; controller = a .controller .z }
+    ∷ record { output = a .output .w; controller = a .controller .w }
+    ∷ []
