@@ -1,16 +1,14 @@
 -- Document 01's starred cases of the brake and of its k, by computation; those of the fresh brake at every tick length, by one sweep. Assumes nothing.
-use mathlib.Core.Path.{_≡_, refl, subst, sym}
-use mathlib.Core.Logic.{⊎-elim}
-use Prim.Native.Nat.{ℕ, zero, suc, _≤_, _<_}
-use native.Mathlib.Nat.{le-of-suc-le-suc, lt-irrefl, lt-of-lt-of-le, eq-or-lt-of-le}
+use mathlib.Core.Path.{_≡_, refl}
+use Prim.Native.Nat.{ℕ}
 use mathlib.Core.Bool.{Bool, true, _&&_}
 use lib.Dec.{T, eqb}
 use lib.Ieee.{Float, binary32, ofBits, toBits, ofInt, add, sub, mul, div, neg, lt, size, round}
-use lib.Ieee.Fits.{and-l, and-r}
 use Rattle.ieee754.specs.Magnitude.{magnitude}
 use Rattle.ieee754.specs.Clamp.{clampBetween}
 use Rattle.linear.specs.Vector.{zeroFloat}
-use Rattle.tick_length.specs.TickLength.{secondsOf}
+use Rattle.tick_length.specs.TickLength.{isTickLength, secondsOf}
+use Rattle.tick_length.proofs.Sweep.{everyTo, at-tick-length}
 use Rattle.pid.specs.Axis.{antiJitter, limited, integrated, weighted, response, calculated, newController}
 use Rattle.active_brake.specs.declared.BrakeMade.the-variants.{Made, Refused}
 use Rattle.active_brake.specs.Brake.{wheelController, newBrake, brakeOf}
@@ -27,23 +25,13 @@ starred k =
     && eqb (freshCurrent k (ofBits binary32 0x7fc0_0000)) 0xbf80_0000
     && eqb (freshCurrent k (ofBits binary32 0xff80_0000)) 0xbf80_0000
 
--- a test at every number from 1 up to n
-abbrev upTo : (ℕ → Bool) → ℕ → Bool
-upTo test zero = true
-upTo test (suc n) = test (suc n) && upTo test n
-
-at-each : (test : ℕ → Bool) (n k : ℕ) → T (upTo test n) → 0 < k → k ≤ n → T (test k)
-at-each test zero k t p h = absurd (lt-irrefl 0 (lt-of-lt-of-le p h))
-at-each test (suc n) k t p h =
-    ⊎-elim (λ e. subst (λ (x : ℕ). T (test x)) (sym e) (and-l (test (suc n)) (upTo test n) t)) (λ l. at-each test n k (and-r (test (suc n)) (upTo test n) t) p (le-of-suc-le-suc l)) (eq-or-lt-of-le h)
-
 -- at every tick length
-sweep : T (upTo starred 64)
+sweep : T (everyTo starred 64)
 unfolding starred freshCurrent wheelController calculated response limited antiJitter integrated weighted newController secondsOf magnitude clampBetween add sub mul div neg lt toBits ofBits ofInt size round
 sweep = tt
 
-pub fresh-brake : (k : ℕ) → 0 < k → k ≤ 64 → T (starred k)
-fresh-brake k p h = at-each starred 64 k sweep p h
+pub fresh-brake : (k : ℕ) → isTickLength k ≡ true → T (starred k)
+fresh-brake k h = at-tick-length starred sweep k h
 
 -- k 0 and 65 are refused with 1, and 1 and 64 make a brake
 pub zero-refused : brakeOf 0 ≡ Refused

@@ -1,0 +1,46 @@
+-- `first_order_lag::FirstOrderLag::new_from_horizon` meets its contract. Assumes nothing.
+use borrow.Author.Needs.{needs}
+use Rattle.first_order_lag.specs.FirstOrderLag.{dtOf, newLag}
+use Rattle.first_order_lag.proofs.Range.{horizon-castable}
+use Rattle.first_order_lag.proofs.FirstOrderLag.new_from_horizon.Statement.{statement}
+use Rattle.first_order_lag.proofs.FirstOrderLag.new_from_horizon.Tie as tie
+
+micros-requires : tie.Need-micros-requires
+micros-requires c κs = search needs
+
+duration-to-secs-requires : tie.Need-duration-to-secs-requires
+duration-to-secs-requires c κs = search needs
+
+duration-to-secs-requires-2 : tie.Need-duration-to-secs-requires-2
+duration-to-secs-requires-2 c κs = search needs
+
+n-steps-of-requires : tie.Need-n-steps-of-requires
+unfolding dtOf
+n-steps-of-requires c κs =
+    rw (c .before .duration-to-secs .ensures, c .before .before .micros .ensures)
+    (horizon-castable (c .before .before .before .args .t .k) (c .before .before .before .pre))
+
+zeros-requires : tie.Need-zeros-requires
+zeros-requires c κs = search needs
+
+returns : tie.Need-returns
+unfolding newLag dtOf
+returns c =
+    simp (
+      c .zeros .ensures,
+      c .before .n-steps-of .ensures,
+      c .before .before .duration-to-secs2 .ensures,
+      c .before .before .before .duration-to-secs .ensures,
+      c .before .before .before .before .micros .ensures,
+    )
+
+pub new-from-horizon-spec : {M : Type 1} → statement M
+new-from-horizon-spec =
+    tie.close
+    (tie.spec
+    micros-requires
+    duration-to-secs-requires
+    duration-to-secs-requires-2
+    n-steps-of-requires
+    zeros-requires
+    returns)
