@@ -1,0 +1,2 @@
+-- Laws of plan's decision. Assumes nothing.
+pub mod Laws
