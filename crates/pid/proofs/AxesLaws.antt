@@ -37,13 +37,13 @@ alone [] c = c
 alone (a ∷ parts) c = alone parts (after a c)
 
 call-length : (parts : List Call) (cs : List PidController) → length (afterCall parts cs) ≡ length cs
-unfolding afterCall length
+unfolding afterCall
 call-length [] cs = refl
 call-length (a ∷ parts) [] = refl
 call-length (a ∷ parts) (c ∷ cs) = ap suc (call-length parts cs)
 
 call-apart : (parts : List Call) (cs : List PidController) (i : ℕ) (other : PidController) → i < length parts → i < length cs → getD (afterCall parts cs) i other ≡ after (getD parts i reset) (getD cs i other)
-unfolding afterCall getD length
+unfolding afterCall
 call-apart [] cs i other p q = absurd (not-suc-le-zero p)
 call-apart (a ∷ parts) [] i other p q = absurd (not-suc-le-zero q)
 call-apart (a ∷ parts) (c ∷ cs) zero other p q = refl
@@ -52,7 +52,7 @@ call-apart (a ∷ parts) (c ∷ cs) (suc i) other p q = call-apart parts cs i ot
 -- the axis at i after a list of calls is what its own parts of the calls make of it
 pub axes-apart : (calls : List (List Call)) (cs : List PidController) (i : ℕ) (other : PidController) → Each (λ parts. i < length parts) calls → i < length cs
     → getD (afterCalls calls cs) i other ≡ alone (map (λ parts. getD parts i reset) calls) (getD cs i other)
-unfolding afterCalls map
+unfolding afterCalls
 axes-apart [] cs i other p q = refl
 axes-apart (a ∷ parts) cs i other p q =
     axes-apart parts (afterCall a cs) i other (p .1) (lt-of-lt-of-le q (le-of-eq (sym (call-length a cs))))

@@ -30,9 +30,9 @@ unfolding calculatedWithDerivative4 joined4 answers
 four-with-derivative c s v d dt = refl
 
 pub three-reset : (c : PidController3) → axes3 (reset3 c) ≡ map resetOf (axes3 c)
-unfolding reset3 map
+unfolding reset3
 three-reset c = refl
 
 pub four-reset : (c : PidController4) → axes4 (reset4 c) ≡ map resetOf (axes4 c)
-unfolding reset4 map
+unfolding reset4
 four-reset c = refl

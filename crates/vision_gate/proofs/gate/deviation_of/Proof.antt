@@ -1,0 +1,15 @@
+-- `vision_gate::gate::deviation_of` meets its contract. Assumes nothing.
+use borrow.Author.Needs.{needs}
+use Rattle.vision_gate.specs.Gate.{deviation}
+use Rattle.vision_gate.proofs.gate.deviation_of.Statement.{statement}
+use Rattle.vision_gate.proofs.gate.deviation_of.Tie as tie
+
+sqrt-requires : tie.Need-sqrt-requires
+sqrt-requires c κs = search needs
+
+returns : tie.Need-returns
+unfolding deviation
+returns c = c .sqrt .ensures
+
+pub deviation-of-spec : {M : Type 1} → statement M
+deviation-of-spec = tie.close (tie.spec sqrt-requires returns)
