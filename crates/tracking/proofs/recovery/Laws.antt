@@ -1,0 +1,13 @@
+-- What recovery does where no sample is held. Assumes nothing.
+use mathlib.Core.Path.{_≡_, refl}
+use mathlib.Core.Bool.{false}
+use Rattle.linear.specs.declared.vector.Vector4f.{Vector4f}
+use Rattle.linear.specs.declared.vector.Vector6f.{Vector6f}
+use Rattle.tracking.specs.declared.recovery.TrackingDivergenceState.the-variants.{Normal}
+use Rattle.tracking.specs.declared.recovery.HeldState.the-variants.{Absent}
+use Rattle.tracking.specs.Recovery.{trackingErrorExceeded, recovery}
+
+-- with none held Normal stays
+pub none-held-normal : (estimate : Vector6f) (wheels : Vector4f) → recovery Normal Absent estimate wheels ≡ record { state = Normal; reset = false }
+unfolding recovery trackingErrorExceeded
+none-held-normal estimate wheels = refl

@@ -1,0 +1,2 @@
+-- Cases of `setpoints`, by computation. Assumes nothing.
+pub mod Cases

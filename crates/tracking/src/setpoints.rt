@@ -1,0 +1,117 @@
+// The setpoints that track a sample, in the modes that controller_params.rs chooses:
+// POSE_ACCEL_MODE is FeedbackOnly and POSE_VEL_MODE is FeedforwardOnly.
+ghost use mathlib.Core.Path.{_≡_};
+ghost use Rattle.tracking.specs.Setpoints.{zeroSetpoints, posePid, wrapped, twistSetpoint, accelSetpoint, trackingSetpoints};
+use controller_params::ANGULAR_POSE_PID_GAINS;
+use controller_params::LINEAR_POSE_PID_GAINS;
+use controller_params::POSE_ACCEL_FEEDBACK_GAIN;
+use controller_params::POSE_PID_ANTI_JITTER_THRESH;
+use controller_params::POSE_VEL_FEEDFORWARD_GAIN;
+use ieee754::remainder::remainder;
+use linear::vector::Vector3f;
+use linear::vector::Vector6f;
+use pid::axes::PidController3;
+use pid::axis::AntiJitterThresh;
+use pid::axis::OutputLimits;
+use pid::axis::PidController;
+
+pub struct ManeuverSetpoints {
+    pub body_twist: Vector3f,
+    pub body_accel: Vector3f,
+}
+
+impl ManeuverSetpoints {
+    pub fn zero() -> Self
+        ensures { λ r. ⌜ r ≡ zeroSetpoints ⌝ }
+    {
+        Self {
+            body_twist: Vector3f::zeros(),
+            body_accel: Vector3f::zeros(),
+        }
+    }
+}
+
+// What tracking answers, beside the pose's PID as the call leaves it.
+pub struct TrackingAnswer {
+    pub setpoints: ManeuverSetpoints,
+    pub controller: PidController3,
+}
+
+// `pose_pid_controller` of a new context: x and y alike, and the heading; no output limits.
+pub fn pose_pid() -> PidController3
+    ensures { λ r. ⌜ r ≡ posePid ⌝ }
+{
+    let thresh = POSE_PID_ANTI_JITTER_THRESH;
+    PidController3 {
+        x: PidController::new(
+            LINEAR_POSE_PID_GAINS,
+            AntiJitterThresh::Below(thresh.x),
+            OutputLimits::Absent,
+        ),
+        y: PidController::new(
+            LINEAR_POSE_PID_GAINS,
+            AntiJitterThresh::Below(thresh.y),
+            OutputLimits::Absent,
+        ),
+        z: PidController::new(
+            ANGULAR_POSE_PID_GAINS,
+            AntiJitterThresh::Below(thresh.z),
+            OutputLimits::Absent,
+        ),
+    }
+}
+
+// pos with its heading wrapped to within half a turn of pose's: the PID must not turn the long way.
+fn wrapped(pos: Vector3f, pose: Vector3f) -> Vector3f
+    ensures { λ r. ⌜ r ≡ wrapped pos pose ⌝ }
+{
+    let ahead = pos.z - pose.z;
+    let turn = remainder(ahead);
+    Vector3f {
+        x: pos.x,
+        y: pos.y,
+        z: pose.z + turn,
+    }
+}
+
+// Feedforward alone: the feedback's term is zeros, and adding them turns -0.0 into 0.0.
+fn twist_setpoint(traj_vel: Vector3f) -> Vector3f
+    ensures { λ r. ⌜ r ≡ twistSetpoint «traj_vel» ⌝ }
+{
+    traj_vel
+        .scale(POSE_VEL_FEEDFORWARD_GAIN)
+        .add(Vector3f::zeros())
+}
+
+// Feedback alone: the feedforward's term is zeros.
+fn accel_setpoint(feedback: Vector3f) -> Vector3f
+    ensures { λ r. ⌜ r ≡ accelSetpoint feedback ⌝ }
+{
+    Vector3f::zeros().add(feedback.scale(POSE_ACCEL_FEEDBACK_GAIN))
+}
+
+// traj_state and traj_accel are a sample's; the modes chosen don't use the acceleration.
+pub fn calc_tracking_setpoints(
+    controller: PidController3,
+    state_estimate: Vector6f,
+    traj_state: Vector6f,
+    traj_accel: Vector3f,
+    dt: f32,
+) -> TrackingAnswer
+    ensures { λ r. ⌜ r ≡ trackingSetpoints controller «state_estimate» «traj_state» dt ⌝ }
+{
+    let pose_estimate = state_estimate.pose;
+    let traj_vel = traj_state.twist;
+    let traj_pos = wrapped(traj_state.pose, pose_estimate);
+    let twist_error = traj_vel.sub(state_estimate.twist);
+    let pid = controller.calculate_with_derivative(traj_pos, pose_estimate, twist_error, dt);
+    let after = pid.controller;
+    let setpoints = ManeuverSetpoints {
+        body_twist: twist_setpoint(traj_vel),
+        body_accel: accel_setpoint(pid.output),
+    };
+    TrackingAnswer {
+        setpoints,
+        controller: after,
+    }
+}
