@@ -75,7 +75,7 @@ fn any_exceeds(error: TrackingErrors, limit: TrackingErrors) -> bool
 }
 
 // No error without a sample.
-pub fn tracking_error_exceeded(held: HeldState, estimate: Vector6f) -> bool
+fn tracking_error_exceeded(held: HeldState, estimate: Vector6f) -> bool
     ensures { λ r. ⌜ r ≡ trackingErrorExceeded held estimate ⌝ }
 {
     match held {
@@ -86,7 +86,7 @@ pub fn tracking_error_exceeded(held: HeldState, estimate: Vector6f) -> bool
 
 // Every wheel is at rest; a NaN is not. One such tick is enough, as
 // TRACKING_DIVERGENCE_RECOVERY_REST_TICKS is 1.
-pub fn at_rest(wheels: Vector4f) -> bool
+fn at_rest(wheels: Vector4f) -> bool
     ensures { λ r. ⌜ r ≡ atRest wheels ⌝ }
 {
     (abs(wheels.x) < TRACKING_DIVERGENCE_RECOVERY_REST_WHEEL_VEL)

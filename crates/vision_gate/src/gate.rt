@@ -185,7 +185,7 @@ fn distance_from(sighting: Vector3f, predicted: Vector6f) -> f32
 }
 
 // The gate's radius at t.
-pub fn gate_radius(t: f32) -> f32
+fn gate_radius(t: f32) -> f32
     ensures { λ r. ⌜ r ≡ radius t ⌝ }
 {
     VISION_GATE_BASE_RADIUS_M + VISION_GATE_EXPAND_RATE_M_PER_S * t

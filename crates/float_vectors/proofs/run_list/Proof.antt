@@ -10,11 +10,17 @@ Inv-loop fd op tally₀ turns₀ tally turns = Unit {0}
 abbrev μ-loop : tie.MeasureT-loop
 μ-loop fd op tally₀ turns₀ tally turns = turns
 
+new-requires : tie.Need-new-requires Inv-loop μ-loop
+new-requires c κs = search needs
+
 loop-holds : tie.Need-loop-holds Inv-loop μ-loop
 loop-holds c = search needs
 
 run-block-requires : tie.Need-run-block-requires Inv-loop μ-loop
 run-block-requires c κs = search needs
+
+returns : tie.Need-returns Inv-loop μ-loop
+returns c = search needs
 
 sub-turns : tie.Need-sub-turns Inv-loop μ-loop
 sub-turns c = search needs
@@ -25,9 +31,6 @@ loop-less c = search needs
 loop-again : tie.Need-loop-again Inv-loop μ-loop
 loop-again c = search needs
 
-returns : tie.Need-returns Inv-loop μ-loop
-returns c = search needs
-
 returns-2 : tie.Need-returns-2 Inv-loop μ-loop
 returns-2 c = search needs
 
@@ -37,10 +40,11 @@ run-list-spec =
     (tie.spec
     Inv-loop
     μ-loop
+    new-requires
     loop-holds
     run-block-requires
+    returns
     sub-turns
     loop-less
     loop-again
-    returns
     returns-2)

@@ -7,10 +7,10 @@ use Rattle.float_vectors.proofs.report.show.Statement.{statement}
 use Rattle.float_vectors.proofs.report.show.Tie as tie
 
 abbrev Inv-loop : tie.InvT-loop
-Inv-loop op block before left₀ i₀ left i = i ≤ length block / 8
+Inv-loop op block left₀ i₀ left i = i ≤ length block / 8
 
 abbrev μ-loop : tie.MeasureT-loop
-μ-loop op block before left₀ i₀ left i = length block / 8 - i
+μ-loop op block left₀ i₀ left i = length block / 8 - i
 
 left-to-show-requires : tie.Need-left-to-show-requires Inv-loop μ-loop
 left-to-show-requires c κs = search needs

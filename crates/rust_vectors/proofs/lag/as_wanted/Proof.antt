@@ -1,0 +1,44 @@
+-- `rust_vectors::lag::as_wanted` meets its contract, on both sides of the test. Assumes nothing.
+use borrow.Author.Needs.{needs}
+use Rattle.rust_vectors.specs.Lag.{asWanted}
+use Rattle.rust_vectors.proofs.lag.as_wanted.Statement.{statement}
+use Rattle.rust_vectors.proofs.lag.as_wanted.Tie as tie
+
+word-at-requires : tie.Need-word-at-requires
+word-at-requires c κs = search needs
+
+cast-steps : tie.Need-cast-steps
+cast-steps c = search needs
+
+to-bits-requires : tie.Need-to-bits-requires
+to-bits-requires c κs = search needs
+
+word-at-requires-2 : tie.Need-word-at-requires-2
+word-at-requires-2 c κs = search needs
+
+to-bits-requires-2 : tie.Need-to-bits-requires-2
+to-bits-requires-2 c κs = search needs
+
+word-at-requires-3 : tie.Need-word-at-requires-3
+word-at-requires-3 c κs = search needs
+
+returns : tie.Need-returns
+unfolding asWanted
+returns c = rw (← c .before .before .word-at3 .ensures, ← c .before .before .before .to-bits2 .ensures, ← c .before .before .before .before .word-at2 .ensures, ← c .before .before .before .before .before .to-bits .ensures, ← c .before .before .before .before .before .before .word-at .ensures, c .if1 .taken)
+
+returns-2 : tie.Need-returns-2
+unfolding asWanted
+returns-2 c = rw (← c .before .before .word-at3 .ensures, ← c .before .before .before .to-bits2 .ensures, ← c .before .before .before .before .word-at2 .ensures, ← c .before .before .before .before .before .to-bits .ensures, ← c .before .before .before .before .before .before .word-at .ensures, c .if1 .left)
+
+pub as-wanted-spec : {M : Type 1} → statement M
+as-wanted-spec =
+    tie.close
+    (tie.spec
+    word-at-requires
+    cast-steps
+    to-bits-requires
+    word-at-requires-2
+    to-bits-requires-2
+    word-at-requires-3
+    returns
+    returns-2)

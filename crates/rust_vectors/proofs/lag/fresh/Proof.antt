@@ -1,0 +1,40 @@
+-- `rust_vectors::lag::fresh` meets its contract. Assumes nothing.
+use borrow.Author.Needs.{needs}
+use Rattle.rust_vectors.specs.Lag.{fresh}
+use Rattle.rust_vectors.proofs.lag.fresh.Statement.{statement}
+use Rattle.rust_vectors.proofs.lag.fresh.Tie as tie
+
+word-at-requires : tie.Need-word-at-requires
+word-at-requires c κs = search needs
+
+new-requires : tie.Need-new-requires
+new-requires c κs = search needs
+
+enum-known-l : tie.Need-enum-known-l
+enum-known-l c = search needs
+
+as-wanted-requires : tie.Need-as-wanted-requires
+as-wanted-requires c κs = search needs
+
+enum-told : tie.Need-enum-told
+enum-told c = search needs
+
+returns : tie.Need-returns
+unfolding fresh
+returns c = rw (c .as-wanted .ensures, ← c .before .before .before .before .before .word-at .ensures, ← c .before .before .before .before .new .ensures .0, c .before .before .l .given .1)
+
+returns-2 : tie.Need-returns-2
+unfolding fresh
+returns-2 c = rw (← c .before .before .before .word-at .ensures, ← c .before .before .new .ensures .0, c .enum-told .given .1)
+
+pub fresh-spec : {M : Type 1} → statement M
+fresh-spec =
+    tie.close
+    (tie.spec
+    word-at-requires
+    new-requires
+    enum-known-l
+    as-wanted-requires
+    enum-told
+    returns
+    returns-2)

@@ -1,0 +1,34 @@
+-- `rust_vectors::run_calls` is safe and ends: the measure is the number of calls left, and nothing has to hold from turn to turn.
+-- Assumes nothing.
+use borrow.Author.Needs.{needs}
+use Rattle.rust_vectors.proofs.run_calls.Statement.{statement}
+use Rattle.rust_vectors.proofs.run_calls.Tie as tie
+
+abbrev Inv-loop : tie.InvT-loop
+Inv-loop fd list calls p₀ left₀ p left = Unit {0}
+
+abbrev μ-loop : tie.MeasureT-loop
+μ-loop fd list calls p₀ left₀ p left = left
+
+loop-holds : tie.Need-loop-holds Inv-loop μ-loop
+loop-holds c = search needs
+
+run-call-requires : tie.Need-run-call-requires Inv-loop μ-loop
+run-call-requires c κs = search needs
+
+sub-left : tie.Need-sub-left Inv-loop μ-loop
+sub-left c = search needs
+
+loop-less : tie.Need-loop-less Inv-loop μ-loop
+loop-less c = search needs
+
+loop-again : tie.Need-loop-again Inv-loop μ-loop
+loop-again c = search needs
+
+returns : tie.Need-returns Inv-loop μ-loop
+returns c = search needs
+
+pub run-calls-spec : {M : Type 1} → statement M
+run-calls-spec =
+    tie.close
+    (tie.spec Inv-loop μ-loop loop-holds run-call-requires sub-left loop-less loop-again returns)

@@ -1,0 +1,95 @@
+-- The lists of the PID controllers: what a header describes, and the step of a call. Assumes nothing.
+use Prim.Native.Nat.{ℕ, _+_, _*_}
+use mathlib.Core.Bool.{cond}
+use mathlib.Core.List.{List}
+use lib.Dec.{eqb}
+use Rattle.linear.specs.Vector.{zeroFloat, zeros3, zeros4}
+use Rattle.controller_params.specs.declared.PidGains.{PidGains}
+use Rattle.pid.specs.declared.axis.AntiJitterThresh.{AntiJitterThresh}
+use Rattle.pid.specs.declared.axis.AntiJitterThresh.the-variants as Thresh
+use Rattle.pid.specs.declared.axis.OutputLimits.{OutputLimits}
+use Rattle.pid.specs.declared.axis.OutputLimits.the-variants as Limits
+use Rattle.pid.specs.declared.axis.PidController.{PidController}
+use Rattle.pid.specs.declared.axis.PidAnswer.{PidAnswer}
+use Rattle.pid.specs.declared.axes.PidController3.{PidController3}
+use Rattle.pid.specs.declared.axes.PidController4.{PidController4}
+use Rattle.pid.specs.declared.axes.PidAnswer3.{PidAnswer3}
+use Rattle.pid.specs.declared.axes.PidAnswer4.{PidAnswer4}
+use Rattle.pid.specs.Axis.{newController, calculated, calculatedWithDerivative, resetOf}
+use Rattle.pid.specs.Widths.{calculated3, calculated4, calculatedWithDerivative3, calculatedWithDerivative4, reset3, reset4}
+use Rattle.vector_run.specs.Word.{wordAt}
+use Rattle.rust_vectors.specs.declared.subject.Subject.{Subject}
+use Rattle.rust_vectors.specs.declared.subject.Subject.the-variants.{Pid1, Pid3, Pid4}
+use Rattle.rust_vectors.specs.declared.subject.Step.{Step}
+use Rattle.rust_vectors.specs.Words.{floatAt, vector3At, vector4At, words1, words3, words4}
+use Rattle.rust_vectors.specs.Step.{byKind3}
+
+-- ---- the header: the number of calls; the gains, axis by axis; whether there is a threshold, and one for each axis; whether there are limits, the low ones and the high ones
+
+unfoldable pub gainsAt : List ℕ → ℕ → PidGains
+gainsAt s i =
+    let at = 1 + 5 * i in
+    record { kp = floatAt s at; ki = floatAt s (at + 1); kd = floatAt s (at + 2); «ki_err_min» = floatAt s (at + 3); «ki_err_max» = floatAt s (at + 4) }
+
+unfoldable pub threshAt : List ℕ → ℕ → ℕ → AntiJitterThresh
+threshAt s n i =
+    let at = 1 + 5 * n in
+    cond (eqb (wordAt s at) 1) (Thresh.Below (floatAt s (at + 1 + i))) Thresh.Absent
+
+unfoldable pub limitsAt : List ℕ → ℕ → ℕ → OutputLimits
+limitsAt s n i =
+    let at = 2 + 6 * n in
+    cond (eqb (wordAt s at) 1) (Limits.Between (floatAt s (at + 1 + i)) (floatAt s (at + 1 + n + i))) Limits.Absent
+
+-- axis i of n, with nothing remembered
+unfoldable pub axisAt : List ℕ → ℕ → ℕ → PidController
+axisAt s n i = newController (gainsAt s i) (threshAt s n i) (limitsAt s n i)
+
+unfoldable pub fresh1 : List ℕ → Subject
+fresh1 s = Pid1 (axisAt s 1 0)
+
+unfoldable pub fresh3 : List ℕ → Subject
+fresh3 s = Pid3 (record { x = axisAt s 3 0; y = axisAt s 3 1; z = axisAt s 3 2 })
+
+unfoldable pub fresh4 : List ℕ → Subject
+fresh4 s = Pid4 (record { x = axisAt s 4 0; y = axisAt s 4 1; z = axisAt s 4 2; w = axisAt s 4 3 })
+
+-- ---- a call: its kind (0 `calculate`, 1 `calculate_with_derivative`, 2 `reset`), setpoint, process variable, derivative and dt. A reset's output is zero.
+
+unfoldable pub answer1 : PidController → List ℕ → PidAnswer
+answer1 c s =
+    byKind3 (wordAt s 0)
+    (calculated c (floatAt s 1) (floatAt s 2) (floatAt s 4))
+    (calculatedWithDerivative c (floatAt s 1) (floatAt s 2) (floatAt s 3) (floatAt s 4))
+    (record { output = zeroFloat; controller = resetOf c })
+
+unfoldable pub answer3 : PidController3 → List ℕ → PidAnswer3
+answer3 c s =
+    byKind3 (wordAt s 0)
+    (calculated3 c (vector3At s 1) (vector3At s 4) (floatAt s 10))
+    (calculatedWithDerivative3 c (vector3At s 1) (vector3At s 4) (vector3At s 7) (floatAt s 10))
+    (record { output = zeros3; controller = reset3 c })
+
+unfoldable pub answer4 : PidController4 → List ℕ → PidAnswer4
+answer4 c s =
+    byKind3 (wordAt s 0)
+    (calculated4 c (vector4At s 1) (vector4At s 5) (floatAt s 13))
+    (calculatedWithDerivative4 c (vector4At s 1) (vector4At s 5) (vector4At s 9) (floatAt s 13))
+    (record { output = zeros4; controller = reset4 c })
+
+-- ---- the controller after a call, and what is compared
+
+unfoldable pub step1 : PidController → List ℕ → Step
+step1 c s =
+    let a = answer1 c s in
+    record { subject = Pid1 (a .controller); words = words1 (a .output) (a .controller) }
+
+unfoldable pub step3 : PidController3 → List ℕ → Step
+step3 c s =
+    let a = answer3 c s in
+    record { subject = Pid3 (a .controller); words = words3 (a .output) (a .controller) }
+
+unfoldable pub step4 : PidController4 → List ℕ → Step
+step4 c s =
+    let a = answer4 c s in
+    record { subject = Pid4 (a .controller); words = words4 (a .output) (a .controller) }

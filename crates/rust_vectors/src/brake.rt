@@ -1,0 +1,47 @@
+// The list of the active brake.
+ghost use mathlib.Core.Path.{_≡_};
+ghost use Rattle.rust_vectors.specs.Brake.{fresh, answer, step};
+use crate::subject::Step;
+use crate::subject::Subject;
+use crate::words::vector4_at;
+use crate::words::words4;
+use active_brake::ActiveBrakeController;
+use active_brake::BrakeAnswer;
+use active_brake::BrakeMade;
+use linear::vector::Vector4f;
+use vector_run::word::word_at;
+
+// A header has k and the number of calls.
+pub fn fresh(header: &[u8]) -> Subject
+    ensures { λ r. ⌜ r ≡ fresh (now (header .entry)) ⌝ }
+{
+    match ActiveBrakeController::new(word_at(header, 0)) {
+        BrakeMade::Made(b) => Subject::Brake(b),
+        BrakeMade::Refused => Subject::Nothing,
+    }
+}
+
+// A call has its kind and the wheel speeds, and then what is compared. The last kind is reset, whose
+// currents are wanted as 0.
+fn answer(b: ActiveBrakeController, call: &[u8]) -> BrakeAnswer
+    ensures { λ r. ⌜ r ≡ answer b (now (call .entry)) ⌝ }
+{
+    match word_at(call, 0) {
+        0 => b.compute(vector4_at(call, 1)),
+        _ => BrakeAnswer {
+            currents: Vector4f::zeros(),
+            controller: b.reset(),
+        },
+    }
+}
+
+pub fn step(b: ActiveBrakeController, call: &[u8]) -> Step
+    ensures { λ r. ⌜ r ≡ step b (now (call .entry)) ⌝ }
+{
+    let a = answer(b, call);
+    let next = a.controller;
+    Step {
+        subject: Subject::Brake(next),
+        words: words4(a.currents, next.pid),
+    }
+}

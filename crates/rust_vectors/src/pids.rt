@@ -1,0 +1,182 @@
+// The lists of the PID controllers of one, three and four axes.
+ghost use mathlib.Core.Path.{_≡_};
+ghost use Rattle.rust_vectors.specs.Pids.{gainsAt, threshAt, limitsAt, axisAt, fresh1, fresh3, fresh4, answer1, answer3, answer4, step1, step3, step4};
+use crate::subject::Step;
+use crate::subject::Subject;
+use crate::words::float_at;
+use crate::words::vector3_at;
+use crate::words::vector4_at;
+use crate::words::words1;
+use crate::words::words3;
+use crate::words::words4;
+use controller_params::PidGains;
+use linear::vector::Vector3f;
+use linear::vector::Vector4f;
+use pid::axes::PidAnswer3;
+use pid::axes::PidAnswer4;
+use pid::axes::PidController3;
+use pid::axes::PidController4;
+use pid::axis::AntiJitterThresh;
+use pid::axis::OutputLimits;
+use pid::axis::PidAnswer;
+use pid::axis::PidController;
+use vector_run::word::word_at;
+
+// A header has the number of calls; the gains, axis by axis; whether there is a threshold, and one
+// for each axis; whether there are limits, the low ones and the high ones.
+fn gains_at(header: &[u8], i: u8) -> PidGains
+    ensures { λ r. ⌜ r ≡ gainsAt (now (header .entry)) i ⌝ }
+{
+    let at = 1 + 5 * (i as usize);
+    PidGains {
+        kp: float_at(header, at),
+        ki: float_at(header, at + 1),
+        kd: float_at(header, at + 2),
+        ki_err_min: float_at(header, at + 3),
+        ki_err_max: float_at(header, at + 4),
+    }
+}
+
+fn thresh_at(header: &[u8], n: u8, i: u8) -> AntiJitterThresh
+    ensures { λ r. ⌜ r ≡ threshAt (now (header .entry)) n i ⌝ }
+{
+    let at = 1 + 5 * (n as usize);
+    if word_at(header, at) == 1 {
+        AntiJitterThresh::Below(float_at(header, at + 1 + (i as usize)))
+    } else {
+        AntiJitterThresh::Absent
+    }
+}
+
+fn limits_at(header: &[u8], n: u8, i: u8) -> OutputLimits
+    ensures { λ r. ⌜ r ≡ limitsAt (now (header .entry)) n i ⌝ }
+{
+    let n = n as usize;
+    let at = 2 + 6 * n;
+    if word_at(header, at) == 1 {
+        let lo = float_at(header, at + 1 + (i as usize));
+        let hi = float_at(header, at + 1 + n + (i as usize));
+        OutputLimits::Between(lo, hi)
+    } else {
+        OutputLimits::Absent
+    }
+}
+
+// Axis i of n.
+fn axis_at(header: &[u8], n: u8, i: u8) -> PidController
+    ensures { λ r. ⌜ r ≡ axisAt (now (header .entry)) n i ⌝ }
+{
+    let gain = gains_at(header, i);
+    let thresh = thresh_at(header, n, i);
+    PidController::new(gain, thresh, limits_at(header, n, i))
+}
+
+pub fn fresh1(header: &[u8]) -> Subject
+    ensures { λ r. ⌜ r ≡ fresh1 (now (header .entry)) ⌝ }
+{
+    Subject::Pid1(axis_at(header, 1, 0))
+}
+
+pub fn fresh3(header: &[u8]) -> Subject
+    ensures { λ r. ⌜ r ≡ fresh3 (now (header .entry)) ⌝ }
+{
+    Subject::Pid3(PidController3 {
+        x: axis_at(header, 3, 0),
+        y: axis_at(header, 3, 1),
+        z: axis_at(header, 3, 2),
+    })
+}
+
+pub fn fresh4(header: &[u8]) -> Subject
+    ensures { λ r. ⌜ r ≡ fresh4 (now (header .entry)) ⌝ }
+{
+    Subject::Pid4(PidController4 {
+        x: axis_at(header, 4, 0),
+        y: axis_at(header, 4, 1),
+        z: axis_at(header, 4, 2),
+        w: axis_at(header, 4, 3),
+    })
+}
+
+// A call has its kind, setpoint, process variable, derivative and dt, and then what is compared. The
+// last kind is reset, whose output is wanted as 0.
+fn answer1(c: PidController, call: &[u8]) -> PidAnswer
+    ensures { λ r. ⌜ r ≡ answer1 c (now (call .entry)) ⌝ }
+{
+    let setpoint = float_at(call, 1);
+    let process = float_at(call, 2);
+    let dt = float_at(call, 4);
+    match word_at(call, 0) {
+        0 => c.calculate(setpoint, process, dt),
+        1 => c.calculate_with_derivative(setpoint, process, float_at(call, 3), dt),
+        _ => PidAnswer {
+            output: 0.0,
+            controller: c.reset(),
+        },
+    }
+}
+
+fn answer3(c: PidController3, call: &[u8]) -> PidAnswer3
+    ensures { λ r. ⌜ r ≡ answer3 c (now (call .entry)) ⌝ }
+{
+    let setpoint = vector3_at(call, 1);
+    let process = vector3_at(call, 4);
+    let dt = float_at(call, 10);
+    match word_at(call, 0) {
+        0 => c.calculate(setpoint, process, dt),
+        1 => c.calculate_with_derivative(setpoint, process, vector3_at(call, 7), dt),
+        _ => PidAnswer3 {
+            output: Vector3f::zeros(),
+            controller: c.reset(),
+        },
+    }
+}
+
+fn answer4(c: PidController4, call: &[u8]) -> PidAnswer4
+    ensures { λ r. ⌜ r ≡ answer4 c (now (call .entry)) ⌝ }
+{
+    let setpoint = vector4_at(call, 1);
+    let process = vector4_at(call, 5);
+    let dt = float_at(call, 13);
+    match word_at(call, 0) {
+        0 => c.calculate(setpoint, process, dt),
+        1 => c.calculate_with_derivative(setpoint, process, vector4_at(call, 9), dt),
+        _ => PidAnswer4 {
+            output: Vector4f::zeros(),
+            controller: c.reset(),
+        },
+    }
+}
+
+pub fn step1(c: PidController, call: &[u8]) -> Step
+    ensures { λ r. ⌜ r ≡ step1 c (now (call .entry)) ⌝ }
+{
+    let a = answer1(c, call);
+    let next = a.controller;
+    Step {
+        subject: Subject::Pid1(next),
+        words: words1(a.output, next),
+    }
+}
+
+pub fn step3(c: PidController3, call: &[u8]) -> Step
+    ensures { λ r. ⌜ r ≡ step3 c (now (call .entry)) ⌝ }
+{
+    let a = answer3(c, call);
+    let next = a.controller;
+    Step {
+        subject: Subject::Pid3(next),
+        words: words3(a.output, next),
+    }
+}
+
+pub fn step4(c: PidController4, call: &[u8]) -> Step
+    ensures { λ r. ⌜ r ≡ step4 c (now (call .entry)) ⌝ }
+{
+    let a = answer4(c, call);
+    let next = a.controller;
+    Step {
+        subject: Subject::Pid4(next),
+        words: words4(a.output, next),
+    }
+}
