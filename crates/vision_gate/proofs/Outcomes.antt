@@ -113,6 +113,19 @@ unfolding judged sightingJudged quiet
 refused-waits t false v p dt e = refl
 refused-waits t true v p dt e = elim (tracking-either t (distance v p) dt) [ inl w ↦ clash (sym (w .0) ∙ e) | inr w ↦ w .1 ]
 
+-- a gate that seeds
+abbrev pub Seeds : VisionGateState → Type 0
+Seeds (Gate.Seeding s) = Unit {0}
+Seeds (Gate.Tracking t) = ⊥
+
+-- seeds on where nothing is taken: only C starts tracking
+pub refused-seeds : (g : VisionGateState) (seen : Bool) (v : Vector3f) (p : Vector6f) (dt : Float) → Seeds g → takes (judged g seen v p dt .action) ≡ false → Seeds (judged g seen v p dt .gate)
+unfolding judged sightingJudged quiet
+refused-seeds (Gate.Tracking t) seen v p dt h e = absurd h
+refused-seeds (Gate.Seeding s) false v p dt h e = tt
+refused-seeds (Gate.Seeding s) true v p dt h e =
+    elim (seeding-either (gathered s v)) [ inl w ↦ rw (w .1) tt | inr (inl w) ↦ clash (sym (ap (λ (j : Judgement). takes (j .action)) w) ∙ e) | inr (inr w) ↦ rw w tt ]
+
 -- ---- n never wraps
 
 -- a seeding of fewer than 20 sightings, or a gate that is tracking

@@ -1,0 +1,64 @@
+-- The answers of plan and steer at their turns have document 01's numbers, in its order of trial. Assumes nothing.
+use mathlib.Core.Path.{_≡_, refl, sym}
+use Prim.Native.Nat.{ℕ, suc}
+use mathlib.Core.Bool.{Bool, true, false, cond}
+use native.Mathlib.Omega.{arith}
+use borrow.Author.Tests.{eqb-true, eqb-false, le-ltb}
+use lib.Dec.{eqb}
+use Rattle.maneuvers.specs.declared.command.CommandAnswer.{CommandAnswer}
+use Rattle.maneuvers.specs.declared.command.CommandAnswer.the-variants as Command
+use Rattle.maneuvers.specs.declared.command.CommandWords.{CommandWords}
+use Rattle.maneuvers.specs.Command.{isMode, commandFrom, refusalNumber}
+use Rattle.body_controller.specs.declared.controller.BodyController.{BodyController}
+use Rattle.body_controller.specs.declared.plan.PlanInput.{PlanInput}
+use Rattle.body_controller.specs.declared.steer.SteerInput.{SteerInput}
+use Rattle.body_controller.specs.declared.turn.Planned.{Planned}
+use Rattle.body_controller.specs.Plan.{planned, planWith, planNumber}
+use Rattle.body_controller.specs.Steer.{limited, steered, failsAt, steerWith, steerNumber}
+
+-- ---- commands
+
+-- a mode number is refused exactly where it is no mode
+command-number : (mode : ℕ) (w : CommandWords) → refusalNumber (commandFrom mode w) ≡ cond (isMode mode) 0 4
+unfolding commandFrom
+command-number mode w = go (eqb mode 0) (eqb mode 1) (eqb mode 2) (eqb mode 3) refl refl refl refl
+  where
+    go : (a b c d : Bool) → eqb mode 0 ≡ a → eqb mode 1 ≡ b → eqb mode 2 ≡ c → eqb mode 3 ≡ d → refusalNumber (commandFrom mode w) ≡ cond (isMode mode) 0 4
+    go true b c d e f g h = rw (eqb-true mode 0 e)
+    go false true c d e f g h = rw (eqb-true mode 1 f)
+    go false false true d e f g h = rw (eqb-true mode 2 g)
+    go false false false true e f g h = rw (eqb-true mode 3 h)
+    go false false false false e f g h =
+        rw (e, f, g, h, le-ltb mode 4 (omega (arith, eqb-false mode 0 e, eqb-false mode 1 f, eqb-false mode 2 g, eqb-false mode 3 h)))
+
+clash : {A : Type 0} (n : ℕ) → _≡_ {A = ℕ} (suc n) 0 → A
+clash n e = absurd (omega (arith, e))
+
+-- 4, then 11
+command-numbered : (c : BodyController) (i : PlanInput) (a : CommandAnswer) (known : Bool)
+    → refusalNumber a ≡ cond known 0 4
+    → planNumber (planWith a c i .answer) ≡ cond known (cond (i .«estimator_failed») 11 0) 4
+unfolding planned
+command-numbered c i Command.Refused true e = clash 3 e
+command-numbered c i Command.Refused false e = refl
+command-numbered c i (Command.Given cmd) false e = clash 3 (sym e)
+command-numbered c i (Command.Given cmd) true e = go (i .«estimator_failed») refl
+  where
+    go : (b : Bool) → i .«estimator_failed» ≡ b → planNumber (planWith (Command.Given cmd) c i .answer) ≡ cond (i .«estimator_failed») 11 0
+    go true e = rw e
+    go false e = rw e
+
+-- what plan gives at its turn
+pub plan-number : (c : BodyController) (i : PlanInput) → planNumber (planWith (commandFrom (i .mode) (i .words)) c i .answer) ≡ cond (isMode (i .mode)) (cond (i .«estimator_failed») 11 0) 4
+plan-number c i = command-numbered c i (commandFrom (i .mode) (i .words)) (isMode (i .mode)) (command-number (i .mode) (i .words))
+
+-- ---- the planner
+
+-- what steer gives at its turn
+pub steer-number : (p : Planned) (c : BodyController) (i : SteerInput) → steerNumber (steerWith p c i .answer) ≡ cond (failsAt p i) 12 0
+unfolding steerWith steered limited
+steer-number p c i = go (failsAt p i) refl
+  where
+    go : (b : Bool) → failsAt p i ≡ b → steerNumber (steerWith p c i .answer) ≡ cond (failsAt p i) 12 0
+    go true e = rw e
+    go false e = rw e

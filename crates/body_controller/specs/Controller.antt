@@ -1,0 +1,112 @@
+-- A new controller, the turn passed on, and the resets: document 01, 'The tick's four calls'. Assumes nothing.
+use Prim.Native.Nat.{ℕ}
+use mathlib.Core.Bool.{true}
+use Rattle.linear.specs.Vector.{zeros3, zeros4, zeros6}
+use Rattle.tick_length.specs.declared.TickLengthAnswer.{TickLengthAnswer}
+use Rattle.tick_length.specs.declared.TickLengthAnswer.the-variants as Length
+use Rattle.tick_length.specs.TickLength.{tickLengthOf}
+use Rattle.pid.specs.Widths.{reset3}
+use Rattle.vision_gate.specs.Vision.{newVision}
+use Rattle.maneuvers.specs.Memory.{emptyMemory}
+use Rattle.tracking.specs.declared.recovery.TrackingDivergenceState.the-variants.{Normal}
+use Rattle.tracking.specs.Setpoints.{posePid}
+use Rattle.body_controller.specs.declared.controller.BodyController.{BodyController}
+use Rattle.body_controller.specs.declared.controller.Choices.{Choices}
+use Rattle.body_controller.specs.declared.controller.NewAnswer.{NewAnswer}
+use Rattle.body_controller.specs.declared.controller.NewAnswer.the-variants.{Made, Refused}
+use Rattle.body_controller.specs.declared.outputs.Outputs.{Outputs}
+use Rattle.body_controller.specs.declared.refusal.Refusal.the-variants.{TickLength}
+use Rattle.body_controller.specs.declared.turn.Turn.{Turn}
+use Rattle.body_controller.specs.declared.turn.Turn.the-variants as Turns
+use Rattle.body_controller.specs.Refusal.{refusalNumber}
+use Rattle.body_controller.specs.Counts.{noCounts}
+
+-- ---- the start
+
+-- the outputs of a new or reset controller
+unfoldable pub noOutputs : Outputs
+noOutputs = record { «body_twist_out» = zeros3; «body_accel_out» = zeros3; «body_accel_out_fric_comp» = zeros3; «wheel_vel_out» = zeros4; «wheel_torque_out» = zeros4 }
+
+-- 'as the Rust's new controller does, at sight's turn, all counts 0'
+unfoldable pub started : Choices → BodyController
+started choices = record {
+  choices = choices;
+  vision = newVision;
+  memory = emptyMemory;
+  phase = record { state = Normal; turn = Turns.Sight };
+  «pose_pid_controller» = posePid;
+  «state_estimate» = zeros6;
+  «prev_mode» = 0;
+  «wheels_disabled» = true;
+  outputs = noOutputs;
+  ticks = 0;
+  counts = noCounts;
+}
+
+-- what `new` answers to a tick length's answer
+abbrev pub madeFrom : TickLengthAnswer → NewAnswer
+madeFrom (Length.Made t) = Made (started (record { tick = t }))
+madeFrom Length.Refused = Refused TickLength
+
+unfoldable pub newOf : ℕ → NewAnswer
+newOf k = madeFrom (tickLengthOf k)
+
+-- document 01's number for an answer, and 0 for the one that is no refusal
+abbrev pub newNumber : NewAnswer → ℕ
+newNumber (Made c) = 0
+newNumber (Refused r) = refusalNumber r
+
+-- ---- the turn
+
+-- the turn passed on, and nothing else
+unfoldable pub inTurn : BodyController → Turn → BodyController
+inTurn c turn = record {
+  choices = c .choices;
+  vision = c .vision;
+  memory = c .memory;
+  phase = record { state = c .phase .state; turn = turn };
+  «pose_pid_controller» = c .«pose_pid_controller»;
+  «state_estimate» = c .«state_estimate»;
+  «prev_mode» = c .«prev_mode»;
+  «wheels_disabled» = c .«wheels_disabled»;
+  outputs = c .outputs;
+  ticks = c .ticks;
+  counts = c .counts;
+}
+
+-- ---- resets
+
+-- recovery's reset: 'wheels keep their disabled mark and the estimate stays'
+unfoldable pub contextReset : BodyController → BodyController
+contextReset c = record {
+  choices = c .choices;
+  vision = newVision;
+  memory = emptyMemory;
+  phase = record { state = Normal; turn = c .phase .turn };
+  «pose_pid_controller» = reset3 (c .«pose_pid_controller»);
+  «state_estimate» = c .«state_estimate»;
+  «prev_mode» = c .«prev_mode»;
+  «wheels_disabled» = c .«wheels_disabled»;
+  outputs = c .outputs;
+  ticks = c .ticks;
+  counts = c .counts;
+}
+
+-- the reset call: 'it does what recovery's reset does, zeroes the outputs, disables the wheels and sets the previous mode to off; counts, tick
+-- number and estimate stay'
+unfoldable pub resetOf : BodyController → BodyController
+resetOf c =
+    let r = contextReset c in
+    record {
+      choices = r .choices;
+      vision = r .vision;
+      memory = r .memory;
+      phase = record { state = r .phase .state; turn = Turns.Sight };
+      «pose_pid_controller» = r .«pose_pid_controller»;
+      «state_estimate» = r .«state_estimate»;
+      «prev_mode» = 0;
+      «wheels_disabled» = true;
+      outputs = noOutputs;
+      ticks = r .ticks;
+      counts = r .counts;
+    }

@@ -1,0 +1,133 @@
+// The controller, made by `new`, and its marks. The calls are in the modules of their names.
+ghost use mathlib.Core.Path.{_≡_};
+ghost use Rattle.tick_length.specs.TickLength.{refusalOf};
+ghost use Rattle.vision_gate.specs.Vision.{active};
+ghost use Rattle.tracking.specs.Recovery.{isRecovering};
+ghost use Rattle.body_controller.specs.Controller.{started, newOf, newNumber, inTurn, contextReset, resetOf};
+use crate::counts::Counts;
+use crate::outputs::Outputs;
+use crate::refusal::Refusal;
+use crate::turn::Phase;
+use crate::turn::Turn;
+use linear::vector::Vector6f;
+use maneuvers::memory::Memory;
+use pid::axes::PidController3;
+use tick_length::TickLength;
+use tick_length::TickLengthAnswer;
+use tracking::recovery::TrackingDivergenceState;
+use tracking::setpoints::pose_pid;
+use vision_gate::vision::Vision;
+
+// What is chosen once, at the start.
+pub struct Choices {
+    pub tick: TickLength,
+}
+
+pub struct BodyController {
+    pub(crate) choices: Choices,
+    pub(crate) vision: Vision,
+    pub(crate) memory: Memory,
+    pub(crate) phase: Phase,
+    pub(crate) pose_pid_controller: PidController3,
+    pub(crate) state_estimate: Vector6f,
+    pub(crate) prev_mode: u32,
+    pub(crate) wheels_disabled: bool,
+    pub(crate) outputs: Outputs,
+    pub(crate) ticks: u32,
+    pub(crate) counts: Counts,
+}
+
+// A controller, or document 01's refusal 1.
+pub enum NewAnswer {
+    Made(BodyController),
+    Refused(Refusal),
+}
+
+impl BodyController {
+    // The Rust's new controller, with nothing counted, at sight's turn.
+    fn start(choices: Choices) -> BodyController
+        ensures { λ r. ⌜ r ≡ started choices ⌝ }
+    {
+        BodyController {
+            choices,
+            vision: Vision::new(),
+            memory: Memory::empty(),
+            phase: Phase {
+                state: TrackingDivergenceState::Normal,
+                turn: Turn::Sight,
+            },
+            pose_pid_controller: pose_pid(),
+            state_estimate: Vector6f::zeros(),
+            prev_mode: 0,
+            wheels_disabled: true,
+            outputs: Outputs::zeros(),
+            ticks: 0,
+            counts: Counts::zeros(),
+        }
+    }
+
+    pub fn new(k: u32) -> NewAnswer
+        ensures { λ r. ⌜ (r ≡ newOf k) × (newNumber r ≡ refusalOf k) ⌝ }
+    {
+        let answer = TickLength::new(k);
+        match answer {
+            TickLengthAnswer::Made(tick) => NewAnswer::Made(BodyController::start(Choices {
+                tick,
+            })),
+            TickLengthAnswer::Refused => NewAnswer::Refused(Refusal::TickLength),
+        }
+    }
+
+    pub fn vision_active(self) -> bool
+        ensures { λ r. ⌜ r ≡ active (self .vision .«time_since_vision_update_s») ⌝ }
+    {
+        self.vision.vision_active()
+    }
+
+    pub fn tracking_divergence_recovery_active(self) -> bool
+        ensures { λ r. ⌜ r ≡ isRecovering (self .phase .state) ⌝ }
+    {
+        let phase = self.phase;
+        let state = phase.state;
+        state.recovering()
+    }
+
+    // The turn passed on.
+    pub(crate) fn pass_turn(mut self, turn: Turn) -> BodyController
+        ensures { λ r. ⌜ r ≡ inTurn self turn ⌝ }
+    {
+        let phase = self.phase;
+        let state = phase.state;
+        let next = Phase { state, turn };
+        self.phase = next;
+        self
+    }
+
+    // What `ControlContext::reset` leaves. The wheels keep their disabled mark, and the estimate stays.
+    pub(crate) fn reset_context(mut self) -> BodyController
+        ensures { λ r. ⌜ r ≡ contextReset self ⌝ }
+    {
+        let phase = self.phase;
+        let turn = phase.turn;
+        self.vision = Vision::new();
+        self.memory = Memory::empty();
+        self.pose_pid_controller = self.pose_pid_controller.reset();
+        let normal = Phase {
+            state: TrackingDivergenceState::Normal,
+            turn,
+        };
+        self.phase = normal;
+        self
+    }
+
+    // The reset call, accepted at any turn. Counts, tick number and estimate stay.
+    pub fn reset(self) -> BodyController
+        ensures { λ r. ⌜ r ≡ resetOf self ⌝ }
+    {
+        let mut c = self.reset_context().pass_turn(Turn::Sight);
+        c.outputs = Outputs::zeros();
+        c.wheels_disabled = true;
+        c.prev_mode = 0;
+        c
+    }
+}

@@ -1,0 +1,101 @@
+// Finish, the tick's last call: the outputs.
+ghost use mathlib.Core.Path.{_≡_};
+ghost use Rattle.body_controller.specs.Finish.{finished, finishRefused, finishOf, finishNumber, finishRefusal};
+use crate::controller::BodyController;
+use crate::outputs::Outputs;
+use crate::refusal::Refusal;
+use crate::turn::Steered;
+use crate::turn::Turn;
+use linear::matrix::Matrix3;
+use linear::matrix::Matrix4x3;
+use linear::vector::Vector3f;
+use tracking::outputs::finish_outputs;
+
+pub struct FinishInput {
+    // Inverse inertia.
+    pub i_inv: Matrix3,
+    pub twist2wheel: Matrix4x3,
+    pub accel2wheel: Matrix4x3,
+    pub friction_force_local: Vector3f,
+}
+
+pub struct Finished {
+    pub outputs: Outputs,
+    // The two clamp marks.
+    pub vel_clamped: bool,
+    pub accel_clamped: bool,
+    pub wheels_disabled: bool,
+}
+
+pub enum FinishAnswer {
+    Accepted(Finished),
+    Refused(Refusal),
+}
+
+pub struct FinishResult {
+    pub answer: FinishAnswer,
+    pub controller: BodyController,
+}
+
+impl BodyController {
+    // The outputs that steer's setpoints give; sight is next.
+    fn finish_by(mut self, s: Steered, i: FinishInput) -> FinishResult
+        ensures { λ r. ⌜ r ≡ finished self s i ⌝ }
+    {
+        let body_twist = s.body_twist;
+        let body_accel = s.body_accel;
+        let f = finish_outputs(
+            s.cos,
+            s.sin,
+            i.i_inv,
+            i.twist2wheel,
+            i.accel2wheel,
+            i.friction_force_local,
+            body_twist,
+            body_accel,
+        );
+        let fric_comp = f.body_accel_out_fric_comp;
+        let wheel_vel = f.wheel_vel_out;
+        let wheel_torque = f.wheel_torque_out;
+        let outputs = Outputs {
+            body_twist_out: body_twist,
+            body_accel_out: body_accel,
+            body_accel_out_fric_comp: fric_comp,
+            wheel_vel_out: wheel_vel,
+            wheel_torque_out: wheel_torque,
+        };
+        let answer = Finished {
+            outputs,
+            vel_clamped: s.vel_clamped,
+            accel_clamped: f.accel_clamped,
+            wheels_disabled: self.wheels_disabled,
+        };
+        self.outputs = outputs;
+        FinishResult {
+            answer: FinishAnswer::Accepted(answer),
+            controller: self.pass_turn(Turn::Sight),
+        }
+    }
+
+    fn refuse_finish(self) -> FinishResult
+        ensures { λ r. ⌜ r ≡ finishRefused self ⌝ }
+    {
+        FinishResult {
+            answer: FinishAnswer::Refused(Refusal::OutOfTurn),
+            controller: self,
+        }
+    }
+
+    pub fn finish(self, i: FinishInput) -> FinishResult
+        ensures { λ r. ⌜ (r ≡ finishOf self i) × (finishNumber (r .answer) ≡ finishRefusal self) ⌝ }
+    {
+        let phase = self.phase;
+        let turn = phase.turn;
+        match turn {
+            Turn::Sight => self.refuse_finish(),
+            Turn::Plan => self.refuse_finish(),
+            Turn::Steer(p) => self.refuse_finish(),
+            Turn::Finish(s) => self.finish_by(s, i),
+        }
+    }
+}

@@ -1,0 +1,121 @@
+// Plan, the tick's second call: the estimate is set, and what is to be tracked is decided.
+ghost use mathlib.Core.Path.{_≡_};
+ghost use Rattle.body_controller.specs.Plan.{disablesWheels, planned, planWith, planOf, planNumber, planRefusal};
+ghost use Rattle.maneuvers.specs.Command.{commandFrom};
+use crate::controller::BodyController;
+use crate::refusal::Refusal;
+use crate::turn::Phase;
+use crate::turn::Planned;
+use crate::turn::Turn;
+use linear::vector::Vector6f;
+use maneuvers::command::CommandAnswer;
+use maneuvers::command::CommandWords;
+use maneuvers::command::ManeuverCommand;
+use maneuvers::plan::PlanAnswer;
+use maneuvers::plan::decide;
+
+pub struct PlanInput {
+    // The estimator's new estimate.
+    pub state_estimate: Vector6f,
+    pub halt: bool,
+    pub mode: u32,
+    pub words: CommandWords,
+    pub estimator_failed: bool,
+}
+
+pub enum PlanCallAnswer {
+    Accepted(PlanAnswer),
+    Refused(Refusal),
+}
+
+pub struct PlanResult {
+    pub answer: PlanCallAnswer,
+    pub controller: BodyController,
+}
+
+// Without vision the wheels are disabled.
+fn disables_wheels(answer: PlanAnswer) -> bool
+    ensures { λ r. ⌜ r ≡ disablesWheels answer ⌝ }
+{
+    match answer {
+        PlanAnswer::Hold => false,
+        PlanAnswer::NoVision => true,
+        PlanAnswer::Keep => false,
+        PlanAnswer::NewPlan(seed) => false,
+    }
+}
+
+impl BodyController {
+    // The controller after the decision on this command.
+    fn decide_on(mut self, i: PlanInput, cmd: ManeuverCommand) -> PlanResult
+        ensures { λ r. ⌜ r ≡ planned self i cmd ⌝ }
+    {
+        let phase = self.phase;
+        let state = phase.state;
+        let decision = decide(
+            i.mode,
+            i.halt,
+            state.recovering(),
+            self.vision.vision_active(),
+            cmd,
+            self.memory,
+            self.prev_mode,
+            i.state_estimate,
+        );
+        let answer = decision.answer;
+        let memory = decision.memory;
+        let estimate = i.state_estimate;
+        let disabled = disables_wheels(answer);
+        self.state_estimate = estimate;
+        self.memory = memory;
+        self.prev_mode = decision.prev_mode;
+        self.wheels_disabled = self.wheels_disabled | disabled;
+        let next = Phase {
+            state,
+            turn: Turn::Steer(Planned { answer, cmd }),
+        };
+        self.phase = next;
+        PlanResult {
+            answer: PlanCallAnswer::Accepted(answer),
+            controller: self,
+        }
+    }
+
+    // The call at plan's turn.
+    fn plan_in_turn(self, i: PlanInput) -> PlanResult
+        ensures { λ r. ⌜ r ≡ planWith (commandFrom (i .mode) (i .words)) self i ⌝ }
+    {
+        let given = ManeuverCommand::from_words(i.mode, i.words);
+        match given {
+            CommandAnswer::Given(cmd) => {
+                if i.estimator_failed {
+                    PlanResult {
+                        answer: PlanCallAnswer::Refused(Refusal::EstimatorFailed),
+                        controller: self.pass_turn(Turn::Sight),
+                    }
+                } else {
+                    self.decide_on(i, cmd)
+                }
+            }
+            CommandAnswer::Refused => PlanResult {
+                answer: PlanCallAnswer::Refused(Refusal::Mode),
+                controller: self,
+            },
+        }
+    }
+
+    pub fn plan(self, i: PlanInput) -> PlanResult
+        ensures { λ r. ⌜ (r ≡ planOf self i) × (planNumber (r .answer) ≡ planRefusal self i) ⌝ }
+    {
+        let phase = self.phase;
+        let turn = phase.turn;
+        if turn.is_plan() {
+            self.plan_in_turn(i)
+        } else {
+            PlanResult {
+                answer: PlanCallAnswer::Refused(Refusal::OutOfTurn),
+                controller: self,
+            }
+        }
+    }
+}

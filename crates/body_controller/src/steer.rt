@@ -1,0 +1,235 @@
+// Steer, the tick's third call: setpoints that track the plan, recovery, stop and the twist's limits.
+ghost use mathlib.Core.Path.{_≡_};
+ghost use Rattle.body_controller.specs.Steer.{heldState, needsPlan, heldOr, tracked, followed, recovered, limited, steered, plannerFailed, steerRefused, steerWith, steerOf, steerNumber, steerRefusal};
+ghost use Rattle.body_controller.specs.declared.refusal.Refusal.the-variants.{OutOfTurn};
+use crate::controller::BodyController;
+use crate::refusal::Refusal;
+use crate::turn::Phase;
+use crate::turn::Planned;
+use crate::turn::Steered;
+use crate::turn::Turn;
+use linear::vector::Vector3f;
+use linear::vector::Vector4f;
+use maneuvers::command::ManeuverCommand;
+use maneuvers::memory::HeldSample;
+use maneuvers::memory::Memory;
+use maneuvers::memory::Sample;
+use maneuvers::plan::PlanAnswer;
+use tracking::friction::friction_twist;
+use tracking::limits::clamp_twist;
+use tracking::limits::stop_scaled;
+use tracking::recovery::HeldState;
+use tracking::recovery::update_tracking_divergence_recovery;
+use tracking::setpoints::ManeuverSetpoints;
+use tracking::setpoints::calc_tracking_setpoints;
+
+pub struct SteerInput {
+    // What a new plan gives for this tick.
+    pub fresh: Sample,
+    // What the tracked plan gives for the next one.
+    pub next: Sample,
+    pub wheel_vel_meas: Vector4f,
+    // Of the estimate's heading.
+    pub cos: f32,
+    pub sin: f32,
+    pub stop: bool,
+    pub planner_failed: bool,
+}
+
+pub enum SteerAnswer {
+    // The friction twist, local and gated.
+    Accepted(Vector3f),
+    Refused(Refusal),
+}
+
+pub struct SteerResult {
+    pub answer: SteerAnswer,
+    pub controller: BodyController,
+}
+
+// Setpoints, beside the controller that gave them.
+pub struct Setpoints {
+    pub setpoints: ManeuverSetpoints,
+    pub controller: BodyController,
+}
+
+fn held_state(held: HeldSample) -> HeldState
+    ensures { λ r. ⌜ r ≡ heldState held ⌝ }
+{
+    match held {
+        HeldSample::Absent => HeldState::Absent,
+        HeldSample::Held(sample) => {
+            let state = sample.state;
+            HeldState::Held(state)
+        }
+    }
+}
+
+fn needs_plan(answer: PlanAnswer) -> bool
+    ensures { λ r. ⌜ r ≡ needsPlan answer ⌝ }
+{
+    match answer {
+        PlanAnswer::Hold => false,
+        PlanAnswer::NoVision => false,
+        PlanAnswer::Keep => false,
+        PlanAnswer::NewPlan(seed) => true,
+    }
+}
+
+// The held sample; plan answers keep only where there is one.
+fn held_or(held: HeldSample, fresh: Sample) -> Sample
+    ensures { λ r. ⌜ r ≡ heldOr held fresh ⌝ }
+{
+    match held {
+        HeldSample::Absent => fresh,
+        HeldSample::Held(sample) => sample,
+    }
+}
+
+impl BodyController {
+    // Tracks a sample; the next one is held, and the command is the previous one.
+    fn track(mut self, sample: Sample, next: Sample, cmd: ManeuverCommand) -> Setpoints
+        ensures { λ r. ⌜ r ≡ tracked self sample next cmd ⌝ }
+    {
+        let dt = self.choices.tick.seconds();
+        let answer = calc_tracking_setpoints(
+            self.pose_pid_controller,
+            self.state_estimate,
+            sample.state,
+            sample.accel,
+            dt,
+        );
+        let pid = answer.controller;
+        let setpoints = answer.setpoints;
+        self.pose_pid_controller = pid;
+        self.memory = Memory::after_tracking(next, cmd);
+        Setpoints {
+            setpoints,
+            controller: self,
+        }
+    }
+
+    // What plan's answer asks for.
+    fn follow(self, p: Planned, fresh: Sample, next: Sample) -> Setpoints
+        ensures { λ r. ⌜ r ≡ followed self p fresh next ⌝ }
+    {
+        let answer = p.answer;
+        let cmd = p.cmd;
+        match answer {
+            PlanAnswer::Hold => Setpoints {
+                setpoints: ManeuverSetpoints::zero(),
+                controller: self,
+            },
+            PlanAnswer::NoVision => Setpoints {
+                setpoints: ManeuverSetpoints::zero(),
+                controller: self,
+            },
+            PlanAnswer::Keep => {
+                let memory = self.memory;
+                let held = memory.held;
+                self.track(held_or(held, fresh), next, cmd)
+            }
+            PlanAnswer::NewPlan(seed) => self.track(fresh, next, cmd),
+        }
+    }
+
+    // Recovery, judged on the sample that is held by now.
+    fn recover(mut self, wheel_vel_meas: Vector4f) -> BodyController
+        ensures { λ r. ⌜ r ≡ recovered self «wheel_vel_meas» ⌝ }
+    {
+        let phase = self.phase;
+        let state = phase.state;
+        let turn = phase.turn;
+        let memory = self.memory;
+        let held = memory.held;
+        let answer = update_tracking_divergence_recovery(
+            state,
+            held_state(held),
+            self.state_estimate,
+            wheel_vel_meas,
+        );
+        if answer.reset {
+            self.reset_context()
+        } else {
+            let state = answer.state;
+            let next = Phase { state, turn };
+            self.phase = next;
+            self
+        }
+    }
+
+    // The tick's setpoints, limited, and the friction twist; finish is next.
+    fn limit(self, setpoints: ManeuverSetpoints, i: SteerInput) -> SteerResult
+        ensures { λ r. ⌜ r ≡ limited self setpoints i ⌝ }
+    {
+        let clamp = clamp_twist(stop_scaled(i.stop, setpoints.body_twist));
+        let body_twist = clamp.value;
+        let body_accel = setpoints.body_accel;
+        let steered = Steered {
+            body_twist,
+            body_accel,
+            vel_clamped: clamp.clamped,
+            cos: i.cos,
+            sin: i.sin,
+        };
+        let friction = friction_twist(i.cos, i.sin, self.state_estimate, body_twist, body_accel);
+        SteerResult {
+            answer: SteerAnswer::Accepted(friction),
+            controller: self.pass_turn(Turn::Finish(steered)),
+        }
+    }
+
+    fn steer_by(self, p: Planned, i: SteerInput) -> SteerResult
+        ensures { λ r. ⌜ r ≡ steered self p i ⌝ }
+    {
+        let t = self.follow(p, i.fresh, i.next);
+        let setpoints = t.setpoints;
+        let c = t.controller;
+        c.recover(i.wheel_vel_meas).limit(setpoints, i)
+    }
+
+    // A planner failure drops the trajectory and closes the tick.
+    fn fail_plan(mut self) -> BodyController
+        ensures { λ r. ⌜ r ≡ plannerFailed self ⌝ }
+    {
+        self.memory = self.memory.drop_trajectory();
+        self.pass_turn(Turn::Sight)
+    }
+
+    // The call at steer's turn.
+    fn steer_in_turn(self, p: Planned, i: SteerInput) -> SteerResult
+        ensures { λ r. ⌜ r ≡ steerWith p self i ⌝ }
+    {
+        let answer = p.answer;
+        if i.planner_failed & needs_plan(answer) {
+            SteerResult {
+                answer: SteerAnswer::Refused(Refusal::PlannerFailed),
+                controller: self.fail_plan(),
+            }
+        } else {
+            self.steer_by(p, i)
+        }
+    }
+
+    fn refuse_steer(self) -> SteerResult
+        ensures { λ r. ⌜ r ≡ steerRefused OutOfTurn self ⌝ }
+    {
+        SteerResult {
+            answer: SteerAnswer::Refused(Refusal::OutOfTurn),
+            controller: self,
+        }
+    }
+
+    pub fn steer(self, i: SteerInput) -> SteerResult
+        ensures { λ r. ⌜ (r ≡ steerOf self i) × (steerNumber (r .answer) ≡ steerRefusal self i) ⌝ }
+    {
+        let phase = self.phase;
+        let turn = phase.turn;
+        match turn {
+            Turn::Sight => self.refuse_steer(),
+            Turn::Plan => self.refuse_steer(),
+            Turn::Steer(p) => self.steer_in_turn(p, i),
+            Turn::Finish(s) => self.refuse_steer(),
+        }
+    }
+}
