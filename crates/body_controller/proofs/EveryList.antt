@@ -5,24 +5,20 @@ use Prim.Native.Nat.{ℕ, _+_, _-_, _*_, _/_, _≤_, _<_}
 use native.Mathlib.Nat.{le-div-iff-mul-le}
 use native.Mathlib.Omega.{arith}
 use mathlib.Core.Bool.{Bool, true, false, cond, not, _&&_, _||_, true≢false}
-use mathlib.Core.List.{List, [], _∷_, head-eq-of-cons-eq, tail-eq-of-cons-eq}
+use mathlib.Core.List.{List, [], _∷_}
 use borrow.Author.Tests.{ltb-true, ltb-false, leb-true, lt-ltb, le-ltb, le-leb}
 use lib.Dec.{T, lit≤, leb, ltb}
 use lib.IntN.{pos}
 use lib.Ieee.{Float, binary32, le, ofInt}
-use Rattle.linear.specs.Vector.{zeros6}
-use Rattle.tick_length.specs.declared.TickLength.{TickLength}
-use Rattle.tick_length.specs.declared.TickLengthAnswer.{TickLengthAnswer}
 use Rattle.tick_length.specs.declared.TickLengthAnswer.the-variants as Length
 use Rattle.tick_length.specs.TickLength.{isTickLength, tickLengthOf, secondsOf}
-use Rattle.tick_length.proofs.Answer.{made-is}
 use Rattle.vision_gate.specs.declared.gate.VisionGateState.{VisionGateState}
 use Rattle.vision_gate.specs.declared.gate.VisionGateState.the-variants.{Seeding, Tracking}
 use Rattle.vision_gate.specs.Outcome.{takes}
 use Rattle.vision_gate.specs.Gate.{distance}
-use Rattle.vision_gate.specs.Vision.{active, newVision, visionAfter}
+use Rattle.vision_gate.specs.Vision.{active, newVision}
 use Rattle.maneuvers.specs.Memory.{emptyMemory}
-use Rattle.vision_gate.proofs.Outcomes.{Small, Seeds}
+use Rattle.vision_gate.proofs.Outcomes.{Small}
 use Rattle.vision_gate.proofs.Held.{Held, held-active, unheld-inactive, held-widens}
 use Rattle.body_controller.specs.declared.controller.BodyController.{BodyController}
 use Rattle.body_controller.specs.declared.controller.Choices.{Choices}
@@ -32,14 +28,15 @@ use Rattle.body_controller.specs.declared.sight.SightResult.{SightResult
 use Rattle.body_controller.specs.declared.refusal.Refusal.the-variants.{OutOfTurn, TickLimit}
 use Rattle.body_controller.specs.Turn.{isSight}
 use Rattle.body_controller.specs.Counts.{noCounts, countList}
-use Rattle.body_controller.specs.Controller.{started, madeFrom, newOf, newNumber, resetOf}
+use Rattle.body_controller.specs.Controller.{started, madeFrom, newOf, newNumber}
+use Rattle.body_controller.specs.Reset.{resetOf}
 use Rattle.body_controller.specs.Sight.{tickLimit, visionSeen, sighted, sightRefused, sightOf}
 use Rattle.body_controller.specs.Plan.{planOf}
 use Rattle.body_controller.specs.Steer.{steerOf}
 use Rattle.body_controller.specs.Finish.{finishOf}
 use Rattle.body_controller.specs.Calls.{Call, sight, plan, steer, finish, reset, Reply, outcome, answer, accepted, refused, isTick, took}
 use Rattle.body_controller.specs.PlainDrive.{DriveState, start, step, driven, drivenReplies, resetsAfter}
-use Rattle.body_controller.specs.EveryList.{sightReply, planReply, steerReply, finishReply, Meets, Entry, Made, callsOf, repliesOf, ticksIn, since, holding, tookWithin, driveOf, isActive, total, gatheredIn, AllWithin, Holds, Demand3, EveryListRuns, NothingWraps, ActiveMeansSeen}
+use Rattle.body_controller.specs.EveryList.{sightReply, planReply, steerReply, finishReply, Meets, Entry, Made, callsOf, repliesOf, ticksIn, since, holding, tookWithin, driveOf, total, gatheredIn, AllWithin, Demand3, EveryListRuns, NothingWraps, ActiveMeansSeen}
 use Rattle.body_controller.proofs.Simulation.{Follows, sight-follows, plan-follows, steer-follows, finish-follows, reset-follows}
 use Rattle.body_controller.proofs.Watched.{visionOf, Seen, Watched, drive-watched}
 

@@ -27,7 +27,7 @@ use Rattle.body_controller.specs.declared.plan.PlanInput.{PlanInput}
 use Rattle.body_controller.specs.declared.steer.SteerInput.{SteerInput}
 use Rattle.body_controller.specs.declared.finish.FinishInput.{FinishInput}
 use Rattle.body_controller.specs.Calls.{Call, sight, plan, steer, finish, reset, accepted, refused, isTick, took, isReset}
-use Rattle.body_controller.specs.PlainDrive.{DriveTurn, toSight, toPlan, toSteer, toFinish, DriveState, Step, turnedAway, seen, onSight, decidedOn, closed, onCommand, onPlan, onReset, cleared, anew, unplanned, followed, judgedState, turnedTo, recovered, steeredBy, onSteer, onFinish, step}
+use Rattle.body_controller.specs.PlainDrive.{DriveTurn, toSight, toPlan, toSteer, toFinish, DriveState, Step, turnedAway, seen, onSight, decidedOn, closed, onCommand, onPlan, onReset, cleared, anew, unplanned, followed, judgedState, turnedTo, steeredBy, onSteer, onFinish, step}
 
 -- the call resets: by itself, or by the recovery that it ends
 abbrev pub resets : DriveState → Call → Step → Bool

@@ -4,7 +4,6 @@ use Prim.Native.Nat.{ℕ, _+_, _%_, _^_, _≤_}
 use native.Mathlib.Nat.{mod-eq-of-lt}
 use native.Mathlib.Omega.{arith}
 use mathlib.Core.Bool.{Bool, true, false, cond}
-use mathlib.Core.List.{List, [], _∷_}
 use lib.Dec.{ltb}
 use lib.Ieee.{Float}
 use Rattle.linear.specs.declared.vector.Vector4f.{Vector4f}
@@ -27,7 +26,6 @@ use Rattle.body_controller.specs.declared.controller.BodyController.{Bod
 use Rattle.body_controller.specs.declared.counts.Counts.{Counts}
 use Rattle.body_controller.specs.declared.sight.SightInput.{SightInput}
 use Rattle.body_controller.specs.declared.plan.PlanInput.{PlanInput}
-use Rattle.body_controller.specs.declared.plan.PlanResult.{PlanResult}
 use Rattle.body_controller.specs.declared.steer.SteerInput.{SteerInput}
 use Rattle.body_controller.specs.declared.steer.Setpoints.{Setpoints}
 use Rattle.body_controller.specs.declared.finish.FinishInput.{FinishInput}
@@ -36,12 +34,13 @@ use Rattle.body_controller.specs.declared.turn.Steered.{Steered}
 use Rattle.body_controller.specs.declared.turn.Turn.{Turn}
 use Rattle.body_controller.specs.declared.turn.Turn.the-variants as Turns
 use Rattle.body_controller.specs.Counts.{counted, countList}
-use Rattle.body_controller.specs.Controller.{inTurn, contextReset, resetOf}
+use Rattle.body_controller.specs.Controller.{inTurn}
+use Rattle.body_controller.specs.Reset.{contextReset, resetOf}
 use Rattle.body_controller.specs.Sight.{tickLimit, memoryAfter, visionSeen, sighted, sightOf}
 use Rattle.body_controller.specs.Plan.{planned, planWith, planOf}
 use Rattle.body_controller.specs.Steer as Steer
 use Rattle.body_controller.specs.Finish.{finished, finishOf}
-use Rattle.body_controller.specs.Calls.{Call, sight, plan, steer, finish, reset, Reply, accepted}
+use Rattle.body_controller.specs.Calls.{sight, plan, steer, finish, reset, Reply, accepted}
 use Rattle.body_controller.specs.PlainDrive as Plain
 use Rattle.body_controller.specs.EveryList.{sightReply, planReply, steerReply, finishReply, driveOf, AllWithin}
 

@@ -1,7 +1,7 @@
 -- Along any list of calls of the plain drive: ticks, counts, how many sightings a seeding holds, and what gate and clock are since the last
 -- taken sighting. Assumes nothing.
-use mathlib.Core.Path.{_≡_, refl, sym, ap, _∙_, subst}
-use mathlib.Core.Logic.{_⊎_, inl, inr}
+use mathlib.Core.Path.{_≡_, refl, sym, ap, _∙_}
+use mathlib.Core.Logic.{inl, inr}
 use Prim.Native.Nat.{ℕ, zero, suc, _+_, _≤_, _<_}
 use native.Mathlib.Numerals.{add-one}
 use native.Mathlib.Omega.{arith}
@@ -9,7 +9,6 @@ use mathlib.Core.Bool.{Bool, true, false, cond, not, _&&_, _||_}
 use mathlib.Core.List.{List, [], _∷_, head-eq-of-cons-eq, tail-eq-of-cons-eq}
 use lib.Dec.{lit<, lit≤}
 use lib.ListN.{length}
-use lib.Ieee.{Float}
 use Rattle.tick_length.specs.TickLength.{secondsOf}
 use Rattle.vision_gate.specs.declared.gate.GateAction.{GateAction}
 use Rattle.vision_gate.specs.declared.gate.GateAction.the-variants.{NoVision, Accumulate, SeedComplete, SeedReset, Accept, AcceptJump, FirstReject, Reject}

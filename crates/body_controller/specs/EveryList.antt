@@ -30,7 +30,8 @@ use Rattle.body_controller.specs.declared.turn.Turn.{Turn}
 use Rattle.body_controller.specs.declared.turn.Turn.the-variants as Turns
 use Rattle.body_controller.specs.Refusal.{refusalNumber}
 use Rattle.body_controller.specs.Counts.{countList}
-use Rattle.body_controller.specs.Controller.{newOf, resetOf}
+use Rattle.body_controller.specs.Controller.{newOf}
+use Rattle.body_controller.specs.Reset.{resetOf}
 use Rattle.body_controller.specs.Sight.{sightOf}
 use Rattle.body_controller.specs.Plan.{planOf}
 use Rattle.body_controller.specs.Steer.{steerOf}

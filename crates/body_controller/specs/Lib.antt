@@ -4,6 +4,7 @@ pub mod Refusal
 pub mod Counts
 pub mod Turn
 pub mod Controller
+pub mod Reset
 pub mod Sight
 pub mod Plan
 pub mod Steer

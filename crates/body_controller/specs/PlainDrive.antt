@@ -12,7 +12,6 @@ use Rattle.controller_params.specs.Params.{visionClockStartS}
 use Rattle.tick_length.specs.TickLength.{secondsOf}
 use Rattle.vision_gate.specs.declared.gate.VisionGateState.{VisionGateState}
 use Rattle.vision_gate.specs.declared.gate.VisionGateState.the-variants.{Seeding}
-use Rattle.vision_gate.specs.declared.gate.Judgement.{Judgement}
 use Rattle.vision_gate.specs.Outcome.{takes, overwrites, numberOf}
 use Rattle.vision_gate.specs.Gate.{freshSeeding, judged}
 use Rattle.vision_gate.specs.Vision.{active, clockAfter}
@@ -25,7 +24,6 @@ use Rattle.maneuvers.specs.declared.memory.PrevCommand.{PrevCommand}
 use Rattle.maneuvers.specs.declared.memory.PrevCommand.the-variants as Prev
 use Rattle.maneuvers.specs.declared.plan.PlanAnswer.{PlanAnswer}
 use Rattle.maneuvers.specs.declared.plan.PlanAnswer.the-variants.{Hold, NoVision, Keep, NewPlan}
-use Rattle.maneuvers.specs.declared.plan.Decision.{Decision}
 use Rattle.maneuvers.specs.Command.{commandFrom}
 use Rattle.maneuvers.specs.Plan.{decided}
 use Rattle.tracking.specs.declared.recovery.TrackingDivergenceState.{TrackingDivergenceState}
@@ -37,7 +35,6 @@ use Rattle.tracking.specs.Recovery.{isRecovering, recovery}
 use Rattle.body_controller.specs.declared.sight.SightInput.{SightInput}
 use Rattle.body_controller.specs.declared.plan.PlanInput.{PlanInput}
 use Rattle.body_controller.specs.declared.steer.SteerInput.{SteerInput}
-use Rattle.body_controller.specs.declared.finish.FinishInput.{FinishInput}
 use Rattle.body_controller.specs.Calls.{Call, sight, plan, steer, finish, reset, Reply, outcome, answer, accepted, refused, isReset}
 
 -- ---- 'State'

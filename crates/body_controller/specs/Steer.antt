@@ -14,8 +14,6 @@ use Rattle.tracking.specs.declared.recovery.HeldState.{HeldState}
 use Rattle.tracking.specs.declared.recovery.HeldState.the-variants as States
 use Rattle.tracking.specs.declared.recovery.RecoveryAnswer.{RecoveryAnswer}
 use Rattle.tracking.specs.declared.setpoints.ManeuverSetpoints.{ManeuverSetpoints}
-use Rattle.tracking.specs.declared.setpoints.TrackingAnswer.{TrackingAnswer}
-use Rattle.tracking.specs.declared.limits.Clamped.{Clamped}
 use Rattle.tracking.specs.Setpoints.{zeroSetpoints, trackingSetpoints}
 use Rattle.tracking.specs.Recovery.{recovery}
 use Rattle.tracking.specs.Limits.{stopScaled, twistClamped}
@@ -32,7 +30,8 @@ use Rattle.body_controller.specs.declared.turn.Planned.{Planned}
 use Rattle.body_controller.specs.declared.turn.Turn.{Turn}
 use Rattle.body_controller.specs.declared.turn.Turn.the-variants as Turns
 use Rattle.body_controller.specs.Refusal.{refusalNumber}
-use Rattle.body_controller.specs.Controller.{inTurn, contextReset}
+use Rattle.body_controller.specs.Controller.{inTurn}
+use Rattle.body_controller.specs.Reset.{contextReset}
 
 -- ---- tracking
 

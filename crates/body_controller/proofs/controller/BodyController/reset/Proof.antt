@@ -1,6 +1,7 @@
 -- `body_controller::controller::BodyController::reset` meets its contract. Assumes nothing.
 use borrow.Author.Needs.{needs}
-use Rattle.body_controller.specs.Controller.{resetOf, inTurn, contextReset}
+use Rattle.body_controller.specs.Controller.{inTurn}
+use Rattle.body_controller.specs.Reset.{contextReset, resetOf}
 use Rattle.body_controller.proofs.controller.BodyController.reset.Statement.{statement}
 use Rattle.body_controller.proofs.controller.BodyController.reset.Tie as tie
 

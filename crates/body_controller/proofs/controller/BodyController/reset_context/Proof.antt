@@ -1,6 +1,6 @@
 -- `body_controller::controller::BodyController::reset_context` meets its contract. Assumes nothing.
 use borrow.Author.Needs.{needs}
-use Rattle.body_controller.specs.Controller.{contextReset}
+use Rattle.body_controller.specs.Reset.{contextReset}
 use Rattle.body_controller.proofs.controller.BodyController.reset_context.Statement.{
   statement,
 }
