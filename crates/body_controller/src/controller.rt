@@ -79,6 +79,32 @@ impl BodyController {
         }
     }
 
+    pub fn tick_length(self) -> TickLength
+        ensures { λ r. ⌜ r ≡ self .choices .tick ⌝ }
+    {
+        let choices = self.choices;
+        choices.tick
+    }
+
+    // How many sight calls were accepted: the number of the next tick.
+    pub fn ticks(self) -> u32
+        ensures { λ r. ⌜ r ≡ self .ticks ⌝ }
+    {
+        self.ticks
+    }
+
+    pub fn counts(self) -> Counts
+        ensures { λ r. ⌜ r ≡ self .counts ⌝ }
+    {
+        self.counts
+    }
+
+    pub fn wheels_disabled(self) -> bool
+        ensures { λ r. ⌜ r ≡ self .«wheels_disabled» ⌝ }
+    {
+        self.wheels_disabled
+    }
+
     pub fn vision_active(self) -> bool
         ensures { λ r. ⌜ r ≡ active (self .vision .«time_since_vision_update_s») ⌝ }
     {
