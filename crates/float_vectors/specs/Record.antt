@@ -3,7 +3,7 @@ use Prim.Native.Nat.{ℕ, zero, suc, _+_, _*_}
 use mathlib.Core.Bool.{Bool, not, cond}
 use mathlib.Core.List.{List}
 use lib.Dec.{eqb}
-use Rattle.vector_run.specs.Word.{wordAt}
+use Rattle.block_words.specs.Word.{wordAt}
 use Rattle.float_vectors.specs.declared.answer.Operation.{Operation}
 use Rattle.float_vectors.specs.Answer.{answerOf}
 

@@ -5,7 +5,7 @@ ghost use lib.ListN.{length};
 ghost use Rattle.float_vectors.specs.Record.{isMismatch, mismatchesIn};
 use crate::answer::Operation;
 use crate::answer::answer;
-use vector_run::word::word_at;
+use block_words::word_at;
 
 // Space for 1024 records.
 pub fn block() -> [u8; 8192]

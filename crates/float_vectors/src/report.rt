@@ -4,10 +4,10 @@ ghost use lib.ListN.{length};
 use crate::answer::Operation;
 use crate::answer::answer;
 use crate::record::is_mismatch;
+use block_words::word_at;
 use libc::STDOUT_FILENO;
 use vector_run::report::Tally;
 use vector_run::report::print_word;
-use vector_run::word::word_at;
 
 // The argument of record i, the answer to it and the answer wanted.
 fn show_record(op: Operation, block: &[u8], i: usize)

@@ -7,7 +7,7 @@ use Rattle.active_brake.specs.declared.BrakeAnswer.{BrakeAnswer}
 use Rattle.active_brake.specs.declared.BrakeMade.{BrakeMade}
 use Rattle.active_brake.specs.declared.BrakeMade.the-variants.{Made, Refused}
 use Rattle.active_brake.specs.Brake.{brakeOf, computed, resetBrake}
-use Rattle.vector_run.specs.Word.{wordAt}
+use Rattle.block_words.specs.Word.{wordAt}
 use Rattle.rust_vectors.specs.declared.subject.Subject.{Subject}
 use Rattle.rust_vectors.specs.declared.subject.Subject.the-variants as subject
 use Rattle.rust_vectors.specs.declared.subject.Step.{Step}

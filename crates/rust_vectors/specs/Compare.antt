@@ -4,7 +4,7 @@ use mathlib.Core.Bool.{Bool, true, _&&_}
 use mathlib.Core.List.{List}
 use lib.Dec.{eqb}
 use lib.ListN.{getD}
-use Rattle.vector_run.specs.Word.{wordAt}
+use Rattle.block_words.specs.Word.{wordAt}
 
 -- whether the first n words are those of the call from `at` on
 unfoldable pub agreesUpTo : List ℕ → List ℕ → ℕ → ℕ → Bool

@@ -9,7 +9,7 @@ use Rattle.first_order_lag.specs.declared.FirstOrderLag.{FirstOrderLag}
 use Rattle.first_order_lag.specs.declared.FirstOrderLagAnswer.{FirstOrderLagAnswer}
 use Rattle.first_order_lag.specs.declared.FirstOrderLagAnswer.the-variants.{Made, Refused}
 use Rattle.first_order_lag.specs.FirstOrderLag.{lagOf, steppedOf, invertedOf, resetOf}
-use Rattle.vector_run.specs.Word.{wordAt}
+use Rattle.block_words.specs.Word.{wordAt}
 use Rattle.rust_vectors.specs.declared.subject.Subject.{Subject}
 use Rattle.rust_vectors.specs.declared.subject.Subject.the-variants as subject
 use Rattle.rust_vectors.specs.declared.subject.Step.{Step}

@@ -17,7 +17,7 @@ use Rattle.pid.specs.declared.axes.PidAnswer3.{PidAnswer3}
 use Rattle.pid.specs.declared.axes.PidAnswer4.{PidAnswer4}
 use Rattle.pid.specs.Axis.{newController, calculated, calculatedWithDerivative, resetOf}
 use Rattle.pid.specs.Widths.{calculated3, calculated4, calculatedWithDerivative3, calculatedWithDerivative4, reset3, reset4}
-use Rattle.vector_run.specs.Word.{wordAt}
+use Rattle.block_words.specs.Word.{wordAt}
 use Rattle.rust_vectors.specs.declared.subject.Subject.{Subject}
 use Rattle.rust_vectors.specs.declared.subject.Subject.the-variants.{Pid1, Pid3, Pid4}
 use Rattle.rust_vectors.specs.declared.subject.Step.{Step}

@@ -8,7 +8,7 @@ use Rattle.linear.specs.declared.vector.Vector4f.{Vector4f}
 use Rattle.pid.specs.declared.axis.PidController.{PidController}
 use Rattle.pid.specs.declared.axes.PidController3.{PidController3}
 use Rattle.pid.specs.declared.axes.PidController4.{PidController4}
-use Rattle.vector_run.specs.Word.{wordAt}
+use Rattle.block_words.specs.Word.{wordAt}
 
 -- the float whose bits are word i
 unfoldable pub floatAt : List ℕ → ℕ → Float

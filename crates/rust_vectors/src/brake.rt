@@ -8,8 +8,8 @@ use crate::words::words4;
 use active_brake::ActiveBrakeController;
 use active_brake::BrakeAnswer;
 use active_brake::BrakeMade;
+use block_words::word_at;
 use linear::vector::Vector4f;
-use vector_run::word::word_at;
 
 // A header has k and the number of calls.
 pub fn fresh(header: &[u8]) -> Subject

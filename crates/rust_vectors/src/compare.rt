@@ -1,9 +1,9 @@
 // The words of an answer against the words wanted.
 ghost use mathlib.Core.Path.{_≡_};
 ghost use Rattle.rust_vectors.specs.Compare.{agreesUpTo};
+use block_words::word_at;
 use libc::STDOUT_FILENO;
 use vector_run::report::print_word;
-use vector_run::word::word_at;
 
 // Whether the twelve words are those of the call from `at` on.
 pub fn agrees(words: &[u32; 12], call: &[u8], at: u8) -> bool

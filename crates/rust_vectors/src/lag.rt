@@ -5,11 +5,11 @@ use crate::subject::Step;
 use crate::subject::Subject;
 use crate::words::vector2_at;
 use crate::words::words2;
+use block_words::word_at;
 use first_order_lag::FirstOrderLag;
 use first_order_lag::FirstOrderLagAnswer;
 use ieee754::bits::to_bits;
 use linear::vector::Vector2f;
-use vector_run::word::word_at;
 
 // A header has k, dt in µs, the number of steps, dt and the least time constant in s, and the
 // number of calls. A lag of other numbers is none.

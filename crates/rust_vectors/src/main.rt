@@ -10,6 +10,7 @@ mod lag; // lag.rt: the list of the encoder lag
 mod subject; // subject.rt: a list's subject, and its steps
 mod compare; // compare.rt: the words of an answer against those wanted
 
+use block_words::word_at;
 use compare::agrees;
 use compare::show;
 use input::read_record;
@@ -21,7 +22,6 @@ use subject::fresh;
 use subject::next_step;
 use vector_run::report;
 use vector_run::report::Tally;
-use vector_run::word::word_at;
 
 // A run in progress.
 struct Progress {

@@ -9,6 +9,7 @@ use crate::words::vector4_at;
 use crate::words::words1;
 use crate::words::words3;
 use crate::words::words4;
+use block_words::word_at;
 use controller_params::PidGains;
 use linear::vector::Vector3f;
 use linear::vector::Vector4f;
@@ -20,7 +21,6 @@ use pid::axis::AntiJitterThresh;
 use pid::axis::OutputLimits;
 use pid::axis::PidAnswer;
 use pid::axis::PidController;
-use vector_run::word::word_at;
 
 // A header has the number of calls; the gains, axis by axis; whether there is a threshold, and one
 // for each axis; whether there are limits, the low ones and the high ones.

@@ -1,6 +1,7 @@
 // The floats of a record, and the words that an answer is compared by.
 ghost use mathlib.Core.Path.{_≡_};
 ghost use Rattle.rust_vectors.specs.Words.{floatAt, vector2At, vector3At, vector4At, words1, words2, words3, words4};
+use block_words::word_at;
 use ieee754::bits::from_bits;
 use ieee754::bits::to_bits;
 use linear::vector::Vector2f;
@@ -9,7 +10,6 @@ use linear::vector::Vector4f;
 use pid::axes::PidController3;
 use pid::axes::PidController4;
 use pid::axis::PidController;
-use vector_run::word::word_at;
 
 // The float whose bits are word i.
 pub fn float_at(block: &[u8], i: usize) -> f32

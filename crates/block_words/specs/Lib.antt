@@ -1,0 +1,2 @@
+-- What the contracts of `block_words` cite. Assumes nothing.
+pub mod Word

@@ -1,0 +1,2 @@
+-- The pass theorem. Assumes nothing.
+pub mod EveryPass

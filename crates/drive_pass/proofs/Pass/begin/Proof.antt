@@ -1,0 +1,58 @@
+-- `drive_pass::Pass::begin` meets its contract. Assumes nothing.
+use borrow.Author.Needs.{needs}
+use borrow.Author.Tests.{eq-eqb, ne-eqb}
+use Rattle.drive_pass.specs.Pass.{first}
+use Rattle.drive_pass.proofs.Pass.begin.Statement.{statement}
+use Rattle.drive_pass.proofs.Pass.begin.Tie as tie
+
+cast-new : tie.Need-cast-new
+cast-new c = search needs
+
+new-requires : tie.Need-new-requires
+new-requires c κs = search needs
+
+enum-known-made : tie.Need-enum-known-made
+enum-known-made c = search needs
+
+drive-tick-requires : tie.Need-drive-tick-requires
+drive-tick-requires c κs = search needs
+
+enum-known-made-2 : tie.Need-enum-known-made-2
+enum-known-made-2 c = search needs
+
+number-requires : tie.Need-number-requires
+number-requires c κs = search needs
+
+refuse-requires : tie.Need-refuse-requires
+refuse-requires c κs = search needs
+
+refuse-requires-2 : tie.Need-refuse-requires-2
+refuse-requires-2 c κs = search needs
+
+returns : tie.Need-returns
+unfolding first
+returns c = rw (c .drive-tick .ensures, eq-eqb _ _ (c .before .before .before .before .before .before .before .if1 .taken), ← c .before .before .before .before .new .ensures .0, c .before .before .made .given .1)
+
+returns-2 : tie.Need-returns-2
+unfolding first
+returns-2 c = rw (c .refuse .ensures, c .before .number .ensures, eq-eqb _ _ (c .before .before .before .before .before .before .before .before .if1 .taken), ← c .before .before .before .before .before .new .ensures .0, c .before .before .before .made2 .given .1)
+
+returns-3 : tie.Need-returns-3
+unfolding first
+returns-3 c = rw (c .refuse2 .ensures, ne-eqb _ _ (c .before .if1 .left))
+
+pub begin-spec : {M : Type 1} → statement M
+begin-spec =
+    tie.close
+    (tie.spec
+    cast-new
+    new-requires
+    enum-known-made
+    drive-tick-requires
+    enum-known-made-2
+    number-requires
+    refuse-requires
+    refuse-requires-2
+    returns
+    returns-2
+    returns-3)

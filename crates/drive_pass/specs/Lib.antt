@@ -1,0 +1,3 @@
+-- What the contracts of `drive_pass` cite. Assumes nothing.
+pub mod Pass
+pub mod PlainPass

@@ -1,0 +1,4 @@
+-- Laws that belong to no one function. Assumes nothing.
+pub mod Placing
+pub mod Digits
+pub mod Cases

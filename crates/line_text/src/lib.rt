@@ -1,0 +1,145 @@
+// The text of program `drive`: one line for each tick or refused block, and the totals at the end.
+// A line goes into a lent array that can't be too short; what stands behind it there stays.
+mod put; // put.rt: bytes, digits and fields at a place of the array
+
+ghost use Prim.Native.Nat.{_+_, _≤_};
+ghost use mathlib.Core.Bool.{cond};
+ghost use mathlib.Core.Path.{_≡_};
+ghost use mathlib.Core.List.{_++_};
+ghost use lib.ListN.{length, drop};
+ghost use Rattle.io.specs.Counts.{Counts as Within};
+ghost use Rattle.line_text.specs.Puts.{Puts};
+ghost use Rattle.line_text.specs.Text.{endingText, failedText, lineText, refusedText, tickText, totalsText, wheelsText};
+use body_controller::counts::Counts;
+use linear::vector::Vector4f;
+use put::put_byte;
+use put::put_decimal;
+use put::put_field;
+use put::put_number;
+use put::put_wheel;
+
+// How many bytes hold any line.
+pub const LINE: usize = 128;
+
+// What ends a tick's line: its wheel speeds, or the refusal that ended the tick.
+pub enum Ending {
+    Wheels(Vector4f),
+    Failed(u8),
+}
+
+// A tick's number, its outcome's letter, its marks at its end, and the ending.
+pub struct TickLine {
+    pub number: u32,
+    pub letter: u8,
+    pub active: bool,
+    pub recovering: bool,
+    pub ending: Ending,
+}
+
+// The number that the block's tick would have had, and why there was none.
+pub struct RefusedLine {
+    pub number: u32,
+    pub refusal: u8,
+}
+
+// A line of the text but the last.
+pub enum Line {
+    Tick(TickLine),
+    Refused(RefusedLine),
+}
+
+// Puts the line at the start of buf, and answers how long it is. (`Within` is what `&buf[..r]` asks.)
+pub fn write_line(buf: &mut [u8; 128], line: Line) -> usize
+    ensures { λ r. ⌜ r ≡ length (lineText line) ⌝ }
+    ensures { λ _. ⌜ now (buf .exit) ≡ lineText line ++ drop (length (lineText line)) (now (buf .entry)) ⌝ }
+    ensures { λ r. ⌜ (r ≤ 128) × Within r (now (buf .exit)) ⌝ }
+{
+    match line {
+        Line::Tick(t) => write_tick(buf, t),
+        Line::Refused(f) => write_refused(buf, f),
+    }
+}
+
+// Puts the last line at the start of buf: how many ticks, and how often each outcome came.
+pub fn write_totals(buf: &mut [u8; 128], ticks: u32, counts: Counts) -> usize
+    ensures { λ r. ⌜ r ≡ length (totalsText ticks counts) ⌝ }
+    ensures { λ _. ⌜ now (buf .exit) ≡ totalsText ticks counts ++ drop (length (totalsText ticks counts)) (now (buf .entry)) ⌝ }
+    ensures { λ r. ⌜ (r ≤ 128) × Within r (now (buf .exit)) ⌝ }
+{
+    let at = put_decimal(buf, 0, ticks);
+    let at = put_number(buf, at, counts.quiet);
+    let at = put_number(buf, at, counts.gathered);
+    let at = put_number(buf, at, counts.complete);
+    let at = put_number(buf, at, counts.reseeded);
+    let at = put_number(buf, at, counts.taken);
+    let at = put_number(buf, at, counts.jump);
+    let at = put_number(buf, at, counts.first);
+    let at = put_number(buf, at, counts.refused);
+    put_byte(buf, at, b'\n')
+}
+
+// A tick's line, at place 0.
+fn write_tick(buf: &mut [u8; 128], t: TickLine) -> usize
+    ensures { λ r. ⌜ Puts (now (buf .entry)) 0 (tickText t) (now (buf .exit)) r ⌝ }
+    ensures { λ r. ⌜ (r ≤ 128) × (r ≤ length (now (buf .exit))) ⌝ }
+{
+    let at = put_decimal(buf, 0, t.number);
+    let at = put_field(buf, at, t.letter);
+    let at = put_field(buf, at, mark(t.active, b'V', b'-'));
+    let at = put_field(buf, at, mark(t.recovering, b'B', b'N'));
+    let ending = t.ending;
+    let at = put_ending(buf, at, ending);
+    put_byte(buf, at, b'\n')
+}
+
+// A refused block's line, at place 0.
+fn write_refused(buf: &mut [u8; 128], f: RefusedLine) -> usize
+    ensures { λ r. ⌜ Puts (now (buf .entry)) 0 (refusedText f) (now (buf .exit)) r ⌝ }
+    ensures { λ r. ⌜ (r ≤ 128) × (r ≤ length (now (buf .exit))) ⌝ }
+{
+    let at = put_decimal(buf, 0, f.number);
+    let at = put_field(buf, at, b'!');
+    let at = put_number(buf, at, f.refusal as u32);
+    put_byte(buf, at, b'\n')
+}
+
+// What ends a tick's line.
+fn put_ending(buf: &mut [u8; 128], at: usize, ending: Ending) -> usize
+    requires { ⌜ at ≤ 64 ⌝ }
+    ensures { λ r. ⌜ Puts (now (buf .entry)) at (endingText ending) (now (buf .exit)) r ⌝ }
+    ensures { λ r. ⌜ r ≤ at + 36 ⌝ }
+{
+    match ending {
+        Ending::Wheels(v) => put_wheels(buf, at, v),
+        Ending::Failed(refusal) => put_failed(buf, at, refusal),
+    }
+}
+
+// Four wheel speeds.
+fn put_wheels(buf: &mut [u8; 128], at: usize, v: Vector4f) -> usize
+    requires { ⌜ at ≤ 64 ⌝ }
+    ensures { λ r. ⌜ Puts (now (buf .entry)) at (wheelsText v) (now (buf .exit)) r ⌝ }
+    ensures { λ r. ⌜ r ≤ at + 36 ⌝ }
+{
+    let at = put_wheel(buf, at, v.x);
+    let at = put_wheel(buf, at, v.y);
+    let at = put_wheel(buf, at, v.z);
+    put_wheel(buf, at, v.w)
+}
+
+// `E` and the refusal.
+fn put_failed(buf: &mut [u8; 128], at: usize, refusal: u8) -> usize
+    requires { ⌜ at ≤ 64 ⌝ }
+    ensures { λ r. ⌜ Puts (now (buf .entry)) at (failedText refusal) (now (buf .exit)) r ⌝ }
+    ensures { λ r. ⌜ r ≤ at + 36 ⌝ }
+{
+    let at = put_field(buf, at, b'E');
+    put_decimal(buf, at, refusal as u32)
+}
+
+// The letter of a mark that is on or off.
+fn mark(on: bool, yes: u8, no: u8) -> u8
+    ensures { λ r. ⌜ r ≡ cond on yes no ⌝ }
+{
+    if on { yes } else { no }
+}

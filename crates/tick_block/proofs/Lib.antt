@@ -1,0 +1,2 @@
+-- Laws that belong to no one function, and cases that are computed. Assumes nothing.
+pub mod Refusal

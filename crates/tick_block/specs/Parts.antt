@@ -1,0 +1,41 @@
+-- The floats of a block of bytes, one by one and by vectors and matrices. Assumes nothing.
+use Prim.Native.Nat.{ℕ, _+_}
+use mathlib.Core.List.{List}
+use lib.Ieee.{Float, binary32, ofBits}
+use Rattle.linear.specs.declared.matrix.Matrix3.{Matrix3}
+use Rattle.linear.specs.declared.matrix.Matrix3x4.{Matrix3x4}
+use Rattle.linear.specs.declared.matrix.Matrix4x3.{Matrix4x3}
+use Rattle.linear.specs.declared.vector.Vector3f.{Vector3f}
+use Rattle.linear.specs.declared.vector.Vector4f.{Vector4f}
+use Rattle.linear.specs.declared.vector.Vector6f.{Vector6f}
+use Rattle.maneuvers.specs.declared.memory.Sample.{Sample}
+use Rattle.block_words.specs.Word.{wordAt}
+
+-- the float whose bits are word i
+unfoldable pub floatAt : List ℕ → ℕ → Float
+floatAt s i = ofBits binary32 (wordAt s i)
+
+-- the vectors whose entries are the words from `at` on
+unfoldable pub vector3At : List ℕ → ℕ → Vector3f
+vector3At s at = record { x = floatAt s at; y = floatAt s (at + 1); z = floatAt s (at + 2) }
+
+unfoldable pub vector4At : List ℕ → ℕ → Vector4f
+vector4At s at = record { x = floatAt s at; y = floatAt s (at + 1); z = floatAt s (at + 2); w = floatAt s (at + 3) }
+
+-- six of state: x, y, heading, their velocities
+unfoldable pub vector6At : List ℕ → ℕ → Vector6f
+vector6At s at = record { pose = vector3At s at; twist = vector3At s (at + 3) }
+
+-- a sample is nine floats: six of state, three of acceleration
+unfoldable pub sampleAt : List ℕ → ℕ → Sample
+sampleAt s at = record { state = vector6At s at; accel = vector3At s (at + 6) }
+
+-- matrices by rows
+unfoldable pub matrix3At : List ℕ → ℕ → Matrix3
+matrix3At s at = record { r0 = vector3At s at; r1 = vector3At s (at + 3); r2 = vector3At s (at + 6) }
+
+unfoldable pub matrix4x3At : List ℕ → ℕ → Matrix4x3
+matrix4x3At s at = record { r0 = vector3At s at; r1 = vector3At s (at + 3); r2 = vector3At s (at + 6); r3 = vector3At s (at + 9) }
+
+unfoldable pub matrix3x4At : List ℕ → ℕ → Matrix3x4
+matrix3x4At s at = record { r0 = vector4At s at; r1 = vector4At s (at + 4); r2 = vector4At s (at + 8) }

@@ -1,0 +1,64 @@
+// Where the 128 words of a tick block lie, document 01, 'Records'. A part is named by its first word.
+
+// A block is 512 bytes.
+pub(crate) const BYTES: usize = 512;
+
+pub(crate) const VERSION: usize = 0;
+
+pub(crate) const NUMBER: usize = 1;
+
+pub(crate) const FLAGS: usize = 2;
+
+pub(crate) const MODE: usize = 3;
+
+pub(crate) const SIGHTING: usize = 4;
+
+pub(crate) const WHEELS: usize = 7;
+
+pub(crate) const GYRO: usize = 11;
+
+pub(crate) const PREDICTED: usize = 12;
+
+pub(crate) const ESTIMATE: usize = 18;
+
+pub(crate) const COMMAND: usize = 24;
+
+pub(crate) const FRESH: usize = 37;
+
+pub(crate) const NEXT: usize = 46;
+
+pub(crate) const COSINE: usize = 55;
+
+pub(crate) const SINE: usize = 56;
+
+pub(crate) const INVERSE_INERTIA: usize = 57;
+
+pub(crate) const TWIST_TO_WHEEL: usize = 66;
+
+pub(crate) const ACCEL_TO_WHEEL: usize = 78;
+
+pub(crate) const WHEEL_TO_TWIST: usize = 90;
+
+pub(crate) const FRICTION: usize = 102;
+
+pub(crate) const TICK_LENGTH: usize = 105;
+
+pub(crate) const SPARE: usize = 106;
+
+pub(crate) const CHECK: usize = 127;
+
+// How many words are spare.
+pub(crate) const SPARES: usize = 21;
+
+// What each flag adds to the flags' word, and the first number that is no sum of flags.
+pub(crate) const SEEN: u32 = 1;
+
+pub(crate) const HALT: u32 = 2;
+
+pub(crate) const STOP: u32 = 4;
+
+pub(crate) const ESTIMATOR_FAILED: u32 = 8;
+
+pub(crate) const PLANNER_FAILED: u32 = 16;
+
+pub(crate) const ALL_FLAGS: u32 = 32;

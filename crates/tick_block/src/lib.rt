@@ -1,0 +1,135 @@
+// A lent block of any length is read as a tick block, a term of document 01, or refused.
+mod check; // check.rt: the check and the spare words
+mod inputs; // inputs.rt: the inputs of the four calls
+mod layout; // layout.rt: where the words lie
+mod parts; // parts.rt: floats, vectors and matrices
+
+ghost use mathlib.Core.Path.{_≡_};
+ghost use Rattle.tick_block.specs.Block.{tickBlock, inputsRead, formatRead, blockRead, refusalNumber, answerNumber, blockRefusal};
+use crate::check::check_of;
+use crate::check::spare_zero;
+use crate::inputs::finish_input;
+use crate::inputs::plan_input;
+use crate::inputs::sight_input;
+use crate::inputs::steer_input;
+use crate::layout::BYTES;
+use crate::layout::CHECK;
+use crate::layout::MODE;
+use crate::layout::NUMBER;
+use crate::layout::TICK_LENGTH;
+use crate::layout::VERSION;
+use block_words::word_at;
+use body_controller::finish::FinishInput;
+use body_controller::plan::PlanInput;
+use body_controller::sight::SightInput;
+use body_controller::steer::SteerInput;
+use maneuvers::command::is_mode;
+use tick_length::TickLength;
+use tick_length::TickLengthAnswer;
+
+pub struct TickBlock {
+    // The tick number, from 0.
+    pub number: u32,
+    pub tick: TickLength,
+    pub sight: SightInput,
+    pub plan: PlanInput,
+    pub steer: SteerInput,
+    pub finish: FinishInput,
+}
+
+// Why a block is refused, in the order of document 01's numbers.
+pub enum BlockRefusal {
+    // 1: k not 1..64
+    TickLength,
+    // 4: mode not 0..3
+    Mode,
+    // 5: block not 512 bytes
+    Length,
+    // 6: check differs
+    Check,
+    // 7: version not 1
+    Version,
+    // 8: flags >= 32 or spare word not zero
+    Spare,
+}
+
+pub enum BlockAnswer {
+    Read(TickBlock),
+    Refused(BlockRefusal),
+}
+
+impl BlockRefusal {
+    // Document 01's number.
+    pub fn number(self) -> u8
+        ensures { λ r. ⌜ r ≡ refusalNumber self ⌝ }
+    {
+        match self {
+            BlockRefusal::TickLength => 1,
+            BlockRefusal::Mode => 4,
+            BlockRefusal::Length => 5,
+            BlockRefusal::Check => 6,
+            BlockRefusal::Version => 7,
+            BlockRefusal::Spare => 8,
+        }
+    }
+}
+
+fn tick_block(block: &[u8], tick: TickLength) -> TickBlock
+    ensures { λ r. ⌜ r ≡ tickBlock (now (block .entry)) tick ⌝ }
+{
+    TickBlock {
+        number: word_at(block, NUMBER),
+        tick,
+        sight: sight_input(block),
+        plan: plan_input(block),
+        steer: steer_input(block),
+        finish: finish_input(block),
+    }
+}
+
+// The last two tests: 1, then 4.
+fn read_inputs(block: &[u8]) -> BlockAnswer
+    ensures { λ r. ⌜ r ≡ inputsRead (now (block .entry)) ⌝ }
+{
+    let answer = TickLength::new(word_at(block, TICK_LENGTH));
+    match answer {
+        TickLengthAnswer::Made(tick) => {
+            if is_mode(word_at(block, MODE)) {
+                BlockAnswer::Read(tick_block(block, tick))
+            } else {
+                BlockAnswer::Refused(BlockRefusal::Mode)
+            }
+        }
+        TickLengthAnswer::Refused => BlockAnswer::Refused(BlockRefusal::TickLength),
+    }
+}
+
+// The tests between: 7, then 8.
+fn read_format(block: &[u8]) -> BlockAnswer
+    ensures { λ r. ⌜ r ≡ formatRead (now (block .entry)) ⌝ }
+{
+    if word_at(block, VERSION) == 1 {
+        if spare_zero(block) {
+            read_inputs(block)
+        } else {
+            BlockAnswer::Refused(BlockRefusal::Spare)
+        }
+    } else {
+        BlockAnswer::Refused(BlockRefusal::Version)
+    }
+}
+
+// The first two tests, 5 and then 6, and the others after them.
+pub fn read(block: &[u8]) -> BlockAnswer
+    ensures { λ r. ⌜ (r ≡ blockRead (now (block .entry))) × (answerNumber r ≡ blockRefusal (now (block .entry))) × (now (block .exit) ≡ now (block .entry)) ⌝ }
+{
+    if block.len() == BYTES {
+        if word_at(block, CHECK) == check_of(block) {
+            read_format(block)
+        } else {
+            BlockAnswer::Refused(BlockRefusal::Check)
+        }
+    } else {
+        BlockAnswer::Refused(BlockRefusal::Length)
+    }
+}
