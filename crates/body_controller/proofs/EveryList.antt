@@ -166,7 +166,7 @@ demand3 k h c m =
     let f = followed k h c m in
     let w = watched-of k h c f in
     record {
-      length = f .tick;
+      tickLength = f .tick;
       ticks = w .ticks;
       sum = w .sum;
       state = f .state;

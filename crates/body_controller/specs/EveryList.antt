@@ -152,7 +152,7 @@ AllWithin n (x ∷ xs) = (x ≤ n) × AllWithin n xs
 
 pub record Holds (k : ℕ) (h : List Entry) (c : BodyController) : Type 0 where
   -- the tick length is k/4096 s still
-  pub length : c .choices .tick .k ≡ k
+  pub tickLength : c .choices .tick .k ≡ k
   -- ticks are the accepted sight calls
   pub ticks : c .ticks ≡ ticksIn h
   -- and the sum of the eight counts

@@ -167,7 +167,7 @@ first-agrees b = go (eqb (b .number) 0) (isTickLength (b .tick .k)) refl
 -- a later block
 later-agrees : (k : ℕ) (calls : List Call) (c : BodyController) (b : TickBlock) → Behind k calls c → Agrees (wentOn c b) (plainTake (at k calls) b)
 unfolding wentOn
-later-agrees k calls c b m = rw (ap (eqb (b .tick .k)) (demand3 k (m .0) c (m .2) .length), ap (eqb (b .number)) (ticks-beside (Driving c) (at k calls) m)) (go (eqb (b .tick .k) k) (eqb (b .number) (plainTicks (at k calls))))
+later-agrees k calls c b m = rw (ap (eqb (b .tick .k)) (demand3 k (m .0) c (m .2) .tickLength), ap (eqb (b .number)) (ticks-beside (Driving c) (at k calls) m)) (go (eqb (b .tick .k) k) (eqb (b .number) (plainTicks (at k calls))))
   where
     go : (same next : Bool)
         → Agrees (cond same (cond next (ticked c b) (refusedBy 10 (Driving c))) (refusedBy 9 (Driving c))) (cond same (cond next (plainTick k calls b) (refusedAt 10 (at k calls))) (refusedAt 9 (at k calls)))

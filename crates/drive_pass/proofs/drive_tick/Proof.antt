@@ -30,7 +30,10 @@ refuse-requires c κs = search needs
 
 returns : tie.Need-returns
 unfolding ticked
-returns c = rw (c .plan-tick .ensures, c .before .before .before .before .letter .ensures, c .before .before .before .before .before .before .before .before .before .before .ticks .ensures, ← c .before .before .before .before .before .before .before .before .before .sight .ensures .0, c .before .before .before .before .before .before .answer .given .1)
+returns c =
+    let answer = c .before .before .before .before .before .before in
+    let sight = answer .before .before .before in
+    rw (c .plan-tick .ensures, c .before .before .before .before .letter .ensures, sight .before .ticks .ensures, ← sight .sight .ensures .0, answer .answer .given .1)
 
 returns-2 : tie.Need-returns-2
 unfolding ticked

@@ -30,7 +30,12 @@ predict-after-requires c κs = search needs
 
 returns : tie.Need-returns
 unfolding sighted
-returns c = simp (c .before .before .before .before .before .before .before .before .before .before .before .seconds .ensures, c .before .before .before .before .before .before .before .before .before .before .update .ensures, c .before .before .before .before .before .before .before .memory-after .ensures, c .before .before .before .before .before .before .pid-after .ensures, c .before .before .before .before .before .wrapping-add-u32 .ensures, c .before .before .before .before .count .ensures, c .before .takes .ensures, c .predict-after .ensures)
+returns c =
+    let counts = c .before .before .before .before in
+    let memory = counts .before .before .before in
+    let update = memory .before .before .before in
+    simp
+    (update .before .seconds .ensures, update .update .ensures, memory .memory-after .ensures, counts .before .before .pid-after .ensures, counts .before .wrapping-add-u32 .ensures, counts .count .ensures, c .before .takes .ensures, c .predict-after .ensures)
 
 pub see-spec : {M : Type 1} → statement M
 see-spec =
