@@ -1,0 +1,67 @@
+// Program `cases`: document 01's cases that are not proved. Standard input has passes one behind the
+// other, each ended by a refused block; the lines of each are printed, and its last line. Then the
+// tick limit, in full.
+mod limit; // limit.rt: a pass of 16,777,217 blocks
+
+use drive_pass::Pass;
+use drive_text::drive_block;
+use drive_text::write_last;
+use libc::STDIN_FILENO;
+use libc::STDOUT_FILENO;
+use limit::drive_to_limit;
+
+// More blocks than the input has.
+const TURNS: u32 = 100_000;
+
+struct Turn {
+    pass: Pass,
+    over: bool,
+}
+
+// The last line of a pass.
+pub(crate) fn print_last(pass: Pass) {
+    let mut line = [0; 128];
+    let len = write_last(pass, &mut line);
+    io::write_all(STDOUT_FILENO, &line[..len]);
+}
+
+// Reads and drives a block. A refused one ends its pass, and the next block begins another.
+fn drive_next(pass: Pass) -> Turn {
+    let mut block = [0; 512];
+    let n = io::read_full(STDIN_FILENO, &mut block);
+    if n == 0 {
+        return Turn { pass, over: true };
+    }
+    let mut line = [0; 128];
+    let w = drive_block(pass, &block[..n], &mut line);
+    let len = w.len;
+    let next = w.pass;
+    io::write_all(STDOUT_FILENO, &line[..len]);
+    if w.refused {
+        print_last(next);
+        Turn {
+            pass: Pass::Empty,
+            over: false,
+        }
+    } else {
+        Turn {
+            pass: next,
+            over: false,
+        }
+    }
+}
+
+fn main() {
+    let mut pass = Pass::Empty;
+    let mut turns = TURNS;
+    while turns > 0 {
+        let t = drive_next(pass);
+        pass = t.pass;
+        if t.over {
+            turns = 0;
+        } else {
+            turns = turns - 1;
+        }
+    }
+    drive_to_limit();
+}
