@@ -72,10 +72,12 @@ impl BodyController {
     {
         let answer = TickLength::new(k);
         match answer {
-            TickLengthAnswer::Made(tick) => NewAnswer::Made(BodyController::start(Choices {
-                tick,
-            })),
-            TickLengthAnswer::Refused => NewAnswer::Refused(Refusal::TickLength),
+            TickLengthAnswer::Made(tick) => {
+                return NewAnswer::Made(BodyController::start(Choices { tick }));
+            }
+            TickLengthAnswer::Refused => {
+                return NewAnswer::Refused(Refusal::TickLength);
+            }
         }
     }
 

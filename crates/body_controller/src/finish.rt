@@ -92,10 +92,18 @@ impl BodyController {
         let phase = self.phase;
         let turn = phase.turn;
         match turn {
-            Turn::Sight => self.refuse_finish(),
-            Turn::Plan => self.refuse_finish(),
-            Turn::Steer(p) => self.refuse_finish(),
-            Turn::Finish(s) => self.finish_by(s, i),
+            Turn::Sight => {
+                return self.refuse_finish();
+            }
+            Turn::Plan => {
+                return self.refuse_finish();
+            }
+            Turn::Steer(p) => {
+                return self.refuse_finish();
+            }
+            Turn::Finish(s) => {
+                return self.finish_by(s, i);
+            }
         }
     }
 }

@@ -89,18 +89,19 @@ impl BodyController {
         match given {
             CommandAnswer::Given(cmd) => {
                 if i.estimator_failed {
-                    PlanResult {
+                    return PlanResult {
                         answer: PlanCallAnswer::Refused(Refusal::EstimatorFailed),
                         controller: self.pass_turn(Turn::Sight),
-                    }
-                } else {
-                    self.decide_on(i, cmd)
+                    };
                 }
+                return self.decide_on(i, cmd);
             }
-            CommandAnswer::Refused => PlanResult {
-                answer: PlanCallAnswer::Refused(Refusal::Mode),
-                controller: self,
-            },
+            CommandAnswer::Refused => {
+                return PlanResult {
+                    answer: PlanCallAnswer::Refused(Refusal::Mode),
+                    controller: self,
+                };
+            }
         }
     }
 
@@ -110,12 +111,11 @@ impl BodyController {
         let phase = self.phase;
         let turn = phase.turn;
         if turn.is_plan() {
-            self.plan_in_turn(i)
-        } else {
-            PlanResult {
-                answer: PlanCallAnswer::Refused(Refusal::OutOfTurn),
-                controller: self,
-            }
+            return self.plan_in_turn(i);
+        }
+        PlanResult {
+            answer: PlanCallAnswer::Refused(Refusal::OutOfTurn),
+            controller: self,
         }
     }
 }

@@ -130,18 +130,16 @@ impl BodyController {
         let turn = phase.turn;
         if turn.is_sight() {
             if self.ticks < TICK_LIMIT {
-                self.see(i)
-            } else {
-                SightResult {
-                    answer: SightAnswer::Refused(Refusal::TickLimit),
-                    controller: self,
-                }
+                return self.see(i);
             }
-        } else {
-            SightResult {
-                answer: SightAnswer::Refused(Refusal::OutOfTurn),
+            return SightResult {
+                answer: SightAnswer::Refused(Refusal::TickLimit),
                 controller: self,
-            }
+            };
+        }
+        SightResult {
+            answer: SightAnswer::Refused(Refusal::OutOfTurn),
+            controller: self,
         }
     }
 }

@@ -116,20 +116,26 @@ impl BodyController {
         let answer = p.answer;
         let cmd = p.cmd;
         match answer {
-            PlanAnswer::Hold => Setpoints {
-                setpoints: ManeuverSetpoints::zero(),
-                controller: self,
-            },
-            PlanAnswer::NoVision => Setpoints {
-                setpoints: ManeuverSetpoints::zero(),
-                controller: self,
-            },
+            PlanAnswer::Hold => {
+                return Setpoints {
+                    setpoints: ManeuverSetpoints::zero(),
+                    controller: self,
+                };
+            }
+            PlanAnswer::NoVision => {
+                return Setpoints {
+                    setpoints: ManeuverSetpoints::zero(),
+                    controller: self,
+                };
+            }
             PlanAnswer::Keep => {
                 let memory = self.memory;
                 let held = memory.held;
-                self.track(held_or(held, fresh), next, cmd)
+                return self.track(held_or(held, fresh), next, cmd);
             }
-            PlanAnswer::NewPlan(seed) => self.track(fresh, next, cmd),
+            PlanAnswer::NewPlan(seed) => {
+                return self.track(fresh, next, cmd);
+            }
         }
     }
 
@@ -149,13 +155,12 @@ impl BodyController {
             wheel_vel_meas,
         );
         if answer.reset {
-            self.reset_context()
-        } else {
-            let state = answer.state;
-            let next = Phase { state, turn };
-            self.phase = next;
-            self
+            return self.reset_context();
         }
+        let state = answer.state;
+        let next = Phase { state, turn };
+        self.phase = next;
+        self
     }
 
     // The tick's setpoints, limited, and the friction twist; finish is next.
@@ -202,13 +207,12 @@ impl BodyController {
     {
         let answer = p.answer;
         if i.planner_failed & needs_plan(answer) {
-            SteerResult {
+            return SteerResult {
                 answer: SteerAnswer::Refused(Refusal::PlannerFailed),
                 controller: self.fail_plan(),
-            }
-        } else {
-            self.steer_by(p, i)
+            };
         }
+        self.steer_by(p, i)
     }
 
     fn refuse_steer(self) -> SteerResult
@@ -226,10 +230,18 @@ impl BodyController {
         let phase = self.phase;
         let turn = phase.turn;
         match turn {
-            Turn::Sight => self.refuse_steer(),
-            Turn::Plan => self.refuse_steer(),
-            Turn::Steer(p) => self.steer_in_turn(p, i),
-            Turn::Finish(s) => self.refuse_steer(),
+            Turn::Sight => {
+                return self.refuse_steer();
+            }
+            Turn::Plan => {
+                return self.refuse_steer();
+            }
+            Turn::Steer(p) => {
+                return self.steer_in_turn(p, i);
+            }
+            Turn::Finish(s) => {
+                return self.refuse_steer();
+            }
         }
     }
 }

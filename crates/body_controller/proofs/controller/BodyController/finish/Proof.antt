@@ -51,13 +51,13 @@ finish-spec =
     (tie.spec
     enum-told
     refuse-finish-requires
+    returns
     enum-told-2
     refuse-finish-requires-2
+    returns-2
     enum-known-turn
     refuse-finish-requires-3
+    returns-3
     enum-known-turn-2
     finish-by-requires
-    returns
-    returns-2
-    returns-3
     returns-4)

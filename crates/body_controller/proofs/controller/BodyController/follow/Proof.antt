@@ -53,14 +53,14 @@ follow-spec =
     (tie.spec
     enum-told
     zero-requires
+    returns
     enum-told-2
     zero-requires-2
+    returns-2
     enum-told-3
     held-or-requires
     track-requires
+    returns-3
     enum-known-answer
     track-requires-2
-    returns
-    returns-2
-    returns-3
     returns-4)

@@ -27,4 +27,11 @@ returns-2 c = rw (← c .before .before .new .ensures .0, c .enum-told .given .1
 
 pub new-spec : {M : Type 1} → statement M
 new-spec =
-    tie.close (tie.spec new-requires enum-known-answer start-requires enum-told returns returns-2)
+    tie.close
+    (tie.spec
+    new-requires
+    enum-known-answer
+    start-requires
+    returns
+    enum-told
+    returns-2)

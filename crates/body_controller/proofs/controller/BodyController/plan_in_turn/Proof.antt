@@ -36,8 +36,8 @@ plan-in-turn-spec =
     from-words-requires
     enum-known-given
     pass-turn-requires
-    decide-on-requires
-    enum-told
     returns
+    decide-on-requires
     returns-2
+    enum-told
     returns-3)

@@ -52,13 +52,13 @@ steer-spec =
     (tie.spec
     enum-told
     refuse-steer-requires
+    returns
     enum-told-2
     refuse-steer-requires-2
+    returns-2
     enum-known-turn
     steer-in-turn-requires
+    returns-3
     enum-known-turn-2
     refuse-steer-requires-3
-    returns
-    returns-2
-    returns-3
     returns-4)

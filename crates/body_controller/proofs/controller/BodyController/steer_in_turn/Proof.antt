@@ -25,4 +25,10 @@ returns-2 c = rw (c .steer-by .ensures, ← c .before .before .before .needs-pla
 
 pub steer-in-turn-spec : {M : Type 1} → statement M
 steer-in-turn-spec =
-    tie.close (tie.spec needs-plan-requires fail-plan-requires steer-by-requires returns returns-2)
+    tie.close
+    (tie.spec
+    needs-plan-requires
+    fail-plan-requires
+    returns
+    steer-by-requires
+    returns-2)
