@@ -1,3 +1,2 @@
 -- What the contracts of `drive_pass` cite. Assumes nothing.
 pub mod Pass
-pub mod PlainPass

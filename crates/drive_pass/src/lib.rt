@@ -71,9 +71,11 @@ fn finish_tick(c: BodyController, h: Heading, finish: FinishInput) -> Driven
         FinishAnswer::Accepted(f) => {
             let outputs = f.outputs;
             let wheels = outputs.wheel_vel_out;
-            end_tick(after, h, Ending::Wheels(wheels))
+            return end_tick(after, h, Ending::Wheels(wheels));
         }
-        FinishAnswer::Refused(r) => end_tick(after, h, Ending::Failed(r.number())),
+        FinishAnswer::Refused(r) => {
+            return end_tick(after, h, Ending::Failed(r.number()));
+        }
     }
 }
 
@@ -84,8 +86,12 @@ fn steer_tick(c: BodyController, h: Heading, steer: SteerInput, finish: FinishIn
     let answer = result.answer;
     let after = result.controller;
     match answer {
-        SteerAnswer::Accepted(t) => finish_tick(after, h, finish),
-        SteerAnswer::Refused(r) => end_tick(after, h, Ending::Failed(r.number())),
+        SteerAnswer::Accepted(t) => {
+            return finish_tick(after, h, finish);
+        }
+        SteerAnswer::Refused(r) => {
+            return end_tick(after, h, Ending::Failed(r.number()));
+        }
     }
 }
 
@@ -96,8 +102,12 @@ fn plan_tick(c: BodyController, h: Heading, rest: Rest) -> Driven
     let answer = result.answer;
     let after = result.controller;
     match answer {
-        PlanCallAnswer::Accepted(a) => steer_tick(after, h, rest.steer, rest.finish),
-        PlanCallAnswer::Refused(r) => end_tick(after, h, Ending::Failed(r.number())),
+        PlanCallAnswer::Accepted(a) => {
+            return steer_tick(after, h, rest.steer, rest.finish);
+        }
+        PlanCallAnswer::Refused(r) => {
+            return end_tick(after, h, Ending::Failed(r.number()));
+        }
     }
 }
 
@@ -120,17 +130,16 @@ fn drive_tick(c: BodyController, b: TickBlock) -> Driven
             let plan = b.plan;
             let steer = b.steer;
             let finish = b.finish;
-            plan_tick(
-                after,
-                heading,
-                Rest {
-                    plan,
-                    steer,
-                    finish,
-                },
-            )
+            let rest = Rest {
+                plan,
+                steer,
+                finish,
+            };
+            return plan_tick(after, heading, rest);
         }
-        SightAnswer::Refused(r) => Pass::Driving(c).refuse(r.number()),
+        SightAnswer::Refused(r) => {
+            return Pass::Driving(c).refuse(r.number());
+        }
     }
 }
 
@@ -176,12 +185,15 @@ impl Pass {
             let tick = b.tick;
             let made = BodyController::new(tick.k as u32);
             match made {
-                NewAnswer::Made(c) => drive_tick(c, b),
-                NewAnswer::Refused(r) => Pass::Empty.refuse(r.number()),
+                NewAnswer::Made(c) => {
+                    return drive_tick(c, b);
+                }
+                NewAnswer::Refused(r) => {
+                    return Pass::Empty.refuse(r.number());
+                }
             }
-        } else {
-            Pass::Empty.refuse(10)
         }
+        Pass::Empty.refuse(10)
     }
 
     // A later block: 9, then 10.
@@ -192,21 +204,23 @@ impl Pass {
         let own = c.tick_length();
         if tick.k == own.k {
             if b.number == c.ticks() {
-                drive_tick(c, b)
-            } else {
-                Pass::Driving(c).refuse(10)
+                return drive_tick(c, b);
             }
-        } else {
-            Pass::Driving(c).refuse(9)
+            return Pass::Driving(c).refuse(10);
         }
+        Pass::Driving(c).refuse(9)
     }
 
     fn take(self, b: TickBlock) -> Driven
         ensures { λ r. ⌜ r ≡ taken self b ⌝ }
     {
         match self {
-            Pass::Empty => Pass::begin(b),
-            Pass::Driving(c) => Pass::go_on(c, b),
+            Pass::Empty => {
+                return Pass::begin(b);
+            }
+            Pass::Driving(c) => {
+                return Pass::go_on(c, b);
+            }
         }
     }
 
@@ -216,8 +230,12 @@ impl Pass {
     {
         let answer = read(block);
         match answer {
-            BlockAnswer::Read(b) => self.take(b),
-            BlockAnswer::Refused(r) => self.refuse(r.number()),
+            BlockAnswer::Read(b) => {
+                return self.take(b);
+            }
+            BlockAnswer::Refused(r) => {
+                return self.refuse(r.number());
+            }
         }
     }
 }

@@ -48,8 +48,8 @@ drive-tick-spec =
     enum-known-answer
     letter-requires
     plan-tick-requires
+    returns
     enum-known-answer-2
     number-requires
     refuse-requires
-    returns
     returns-2)

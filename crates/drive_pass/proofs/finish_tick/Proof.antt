@@ -37,8 +37,8 @@ finish-tick-spec =
     finish-requires
     enum-known-answer
     end-tick-requires
+    returns
     enum-known-answer-2
     number-requires
     end-tick-requires-2
-    returns
     returns-2)

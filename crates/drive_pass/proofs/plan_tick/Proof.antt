@@ -37,8 +37,8 @@ plan-tick-spec =
     plan-requires
     enum-known-answer
     steer-tick-requires
+    returns
     enum-known-answer-2
     number-requires
     end-tick-requires
-    returns
     returns-2)

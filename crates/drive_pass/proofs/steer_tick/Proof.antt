@@ -37,8 +37,8 @@ steer-tick-spec =
     steer-requires
     enum-known-answer
     finish-tick-requires
+    returns
     enum-known-answer-2
     number-requires
     end-tick-requires
-    returns
     returns-2)

@@ -49,10 +49,10 @@ begin-spec =
     new-requires
     enum-known-made
     drive-tick-requires
+    returns
     enum-known-made-2
     number-requires
     refuse-requires
-    refuse-requires-2
-    returns
     returns-2
+    refuse-requires-2
     returns-3)

@@ -37,8 +37,8 @@ drive-spec =
     read-requires
     enum-known-answer
     take-requires
+    returns
     enum-known-answer-2
     number-requires
     refuse-requires
-    returns
     returns-2)

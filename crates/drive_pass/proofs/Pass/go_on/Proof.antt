@@ -39,8 +39,8 @@ go-on-spec =
     tick-length-requires
     ticks-requires
     drive-tick-requires
-    refuse-requires
-    refuse-requires-2
     returns
+    refuse-requires
     returns-2
+    refuse-requires-2
     returns-3)

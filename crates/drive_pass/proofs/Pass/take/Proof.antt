@@ -23,4 +23,11 @@ returns-2 c = rw (c .go-on .ensures, c .before .before .self .given .1)
 
 pub take-spec : {M : Type 1} → statement M
 take-spec =
-    tie.close (tie.spec enum-told begin-requires enum-known-self go-on-requires returns returns-2)
+    tie.close
+    (tie.spec
+    enum-told
+    begin-requires
+    returns
+    enum-known-self
+    go-on-requires
+    returns-2)

@@ -32,10 +32,10 @@ use Rattle.tracking.specs.declared.recovery.HeldState.{HeldState}
 use Rattle.tracking.specs.declared.recovery.HeldState.the-variants as States
 use Rattle.tracking.specs.declared.recovery.RecoveryAnswer.{RecoveryAnswer}
 use Rattle.tracking.specs.Recovery.{isRecovering, recovery}
 use Rattle.body_controller.specs.declared.sight.SightInput.{SightInput}
 use Rattle.body_controller.specs.declared.plan.PlanInput.{PlanInput}
 use Rattle.body_controller.specs.declared.steer.SteerInput.{SteerInput}
-use Rattle.body_controller.specs.Calls.{Call, sight, plan, steer, finish, reset, Reply, outcome, answer, accepted, refused, isReset}
+use Rattle.plain_drive.specs.Calls.{Call, sight, plan, steer, finish, reset, Reply, outcome, answer, accepted, refused, isReset}
 
 -- ---- 'State'
 

@@ -11,33 +11,33 @@ use Rattle.vision_gate.specs.declared.gate.VisionGateState.{VisionGateState}
 use Rattle.vision_gate.specs.declared.gate.VisionGateState.the-variants.{Seeding, Tracking}
 use Rattle.vision_gate.specs.Gate.{distance}
 use Rattle.vision_gate.specs.Vision.{active}
 use Rattle.body_controller.specs.declared.controller.BodyController.{BodyController}
 use Rattle.body_controller.specs.declared.controller.NewAnswer.the-variants as New
 use Rattle.body_controller.specs.declared.sight.SightInput.{SightInput}
 use Rattle.body_controller.specs.declared.sight.SightAnswer.{SightAnswer}
 use Rattle.body_controller.specs.declared.sight.SightAnswer.the-variants as Sights
 use Rattle.body_controller.specs.declared.sight.SightResult.{SightResult}
 use Rattle.body_controller.specs.declared.plan.PlanCallAnswer.{PlanCallAnswer}
 use Rattle.body_controller.specs.declared.plan.PlanCallAnswer.the-variants as Plans
 use Rattle.body_controller.specs.declared.plan.PlanResult.{PlanResult}
 use Rattle.body_controller.specs.declared.steer.SteerAnswer.{SteerAnswer}
 use Rattle.body_controller.specs.declared.steer.SteerAnswer.the-variants as Steers
 use Rattle.body_controller.specs.declared.steer.SteerResult.{SteerResult}
 use Rattle.body_controller.specs.declared.finish.FinishAnswer.{FinishAnswer}
 use Rattle.body_controller.specs.declared.finish.FinishAnswer.the-variants as Finishes
 use Rattle.body_controller.specs.declared.finish.FinishResult.{FinishResult}
 use Rattle.body_controller.specs.declared.turn.Turn.{Turn}
 use Rattle.body_controller.specs.declared.turn.Turn.the-variants as Turns
 use Rattle.body_controller.specs.Refusal.{refusalNumber}
 use Rattle.body_controller.specs.Counts.{countList}
 use Rattle.body_controller.specs.Controller.{newOf}
 use Rattle.body_controller.specs.Reset.{resetOf}
 use Rattle.body_controller.specs.Sight.{sightOf}
 use Rattle.body_controller.specs.Plan.{planOf}
 use Rattle.body_controller.specs.Steer.{steerOf}
 use Rattle.body_controller.specs.Finish.{finishOf}
-use Rattle.body_controller.specs.Calls.{Call, sight, plan, steer, finish, reset, Reply, outcome, answer, accepted, refused, isTick, took}
-use Rattle.body_controller.specs.PlainDrive.{DriveTurn, toSight, toPlan, toSteer, toFinish, DriveState, driven, drivenReplies, resetsAfter}
+use Rattle.plain_drive.specs.Calls.{Call, sight, plan, steer, finish, reset, Reply, outcome, answer, accepted, refused, isTick, took}
+use Rattle.plain_drive.specs.PlainDrive.{DriveTurn, toSight, toPlan, toSteer, toFinish, DriveState, driven, drivenReplies, resetsAfter}
 
 -- ---- a run of the controller
 

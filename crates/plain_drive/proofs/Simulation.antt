@@ -22,27 +22,27 @@ use Rattle.maneuvers.specs.declared.plan.PlanAnswer.the-variants as Answers
 use Rattle.maneuvers.specs.Command.{commandFrom}
 use Rattle.maneuvers.specs.Memory.{emptyMemory, trajectoryDropped, afterTracking}
 use Rattle.tracking.specs.Recovery.{recovery}
 use Rattle.body_controller.specs.declared.controller.BodyController.{BodyController}
 use Rattle.body_controller.specs.declared.counts.Counts.{Counts}
 use Rattle.body_controller.specs.declared.sight.SightInput.{SightInput}
 use Rattle.body_controller.specs.declared.plan.PlanInput.{PlanInput}
 use Rattle.body_controller.specs.declared.steer.SteerInput.{SteerInput}
 use Rattle.body_controller.specs.declared.steer.Setpoints.{Setpoints}
 use Rattle.body_controller.specs.declared.finish.FinishInput.{FinishInput}
 use Rattle.body_controller.specs.declared.turn.Planned.{Planned}
 use Rattle.body_controller.specs.declared.turn.Steered.{Steered}
 use Rattle.body_controller.specs.declared.turn.Turn.{Turn}
 use Rattle.body_controller.specs.declared.turn.Turn.the-variants as Turns
 use Rattle.body_controller.specs.Counts.{counted, countList}
 use Rattle.body_controller.specs.Controller.{inTurn}
 use Rattle.body_controller.specs.Reset.{contextReset, resetOf}
 use Rattle.body_controller.specs.Sight.{tickLimit, memoryAfter, visionSeen, sighted, sightOf}
 use Rattle.body_controller.specs.Plan.{planned, planWith, planOf}
 use Rattle.body_controller.specs.Steer as Steer
 use Rattle.body_controller.specs.Finish.{finished, finishOf}
-use Rattle.body_controller.specs.Calls.{sight, plan, steer, finish, reset, Reply, accepted}
-use Rattle.body_controller.specs.PlainDrive as Plain
-use Rattle.body_controller.specs.EveryList.{sightReply, planReply, steerReply, finishReply, driveOf, AllWithin}
+use Rattle.plain_drive.specs.Calls.{sight, plan, steer, finish, reset, Reply, accepted}
+use Rattle.plain_drive.specs.PlainDrive as Plain
+use Rattle.plain_drive.specs.EveryList.{sightReply, planReply, steerReply, finishReply, driveOf, AllWithin}
 
 -- the reply r and the controller d are what the plain drive makes of c's state, and the choices stay
 pub record Follows (c : BodyController) (to : Plain.Step) (r : Reply) (d : BodyController) : Type 0 where

@@ -22,23 +22,23 @@ use Rattle.body_controller.specs.Sight.{sightOf}
 use Rattle.body_controller.specs.Plan.{planOf}
 use Rattle.body_controller.specs.Steer.{steerOf}
 use Rattle.body_controller.specs.Finish.{finishOf}
-use Rattle.body_controller.specs.Calls.{Call, sight, plan, steer, finish, Reply}
-use Rattle.body_controller.specs.PlainDrive as Plain
-use Rattle.body_controller.specs.EveryList.{sightReply, planReply, steerReply, finishReply, Meets, Entry, Made, callsOf, repliesOf, driveOf}
-use Rattle.body_controller.proofs.EveryList.{demand3}
+use Rattle.plain_drive.specs.Calls.{Call, sight, plan, steer, finish, Reply}
+use Rattle.plain_drive.specs.PlainDrive as Plain
+use Rattle.plain_drive.specs.EveryList.{sightReply, planReply, steerReply, finishReply, Meets, Entry, Made, callsOf, repliesOf, driveOf}
+use Rattle.plain_drive.proofs.EveryList.{demand3}
 use Rattle.line_text.specs.declared.Ending.{Ending}
 use Rattle.line_text.specs.declared.Line.{Line}
 use Rattle.tick_block.specs.declared.BlockAnswer.{BlockAnswer}
 use Rattle.tick_block.specs.declared.BlockAnswer.the-variants as Block
 use Rattle.tick_block.specs.declared.TickBlock.{TickBlock}
 use Rattle.tick_block.specs.Block as Blocks
 use Rattle.drive_pass.specs.declared.Driven.{Driven}
 use Rattle.drive_pass.specs.declared.Heading.{Heading}
 use Rattle.drive_pass.specs.declared.Pass.{Pass}
 use Rattle.drive_pass.specs.declared.Pass.the-variants.{Empty, Driving}
 use Rattle.drive_pass.specs.declared.Rest.{Rest}
 use Rattle.drive_pass.specs.Pass.{nextNumber, countsOf, refusedBy, endedBy, finishedWith, finished, steeredWith, steered, plannedWith, planned, tickedWith, ticked, begunWith, first, wentOn, drivenWith, driven}
-use Rattle.drive_pass.specs.PlainPass.{endingNumber, markOf, PlainPass, none, at, PlainDriven, replyAfter, refusalIn, endedAt, atFinish, atSteer, atPlan, plainTick, plainTicks, plainCounts, refusedAt, plainTake, plainRead, plainPass, plainMarks, Passed, marksOf, StandsOn, EveryPass}
+use Rattle.plain_pass.specs.PlainPass.{endingNumber, markOf, PlainPass, none, at, PlainDriven, replyAfter, refusalIn, endedAt, atFinish, atSteer, atPlan, plainTick, plainTicks, plainCounts, refusedAt, plainTake, plainRead, plainPass, plainMarks, Passed, marksOf, StandsOn, EveryPass}
 
 -- a controller behind the calls of a pass
 abbrev Behind : ℕ → List Call → BodyController → Type 0

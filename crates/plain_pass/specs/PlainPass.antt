@@ -13,9 +13,9 @@ use Rattle.body_controller.specs.declared.finish.FinishInput.{FinishInput}
 use Rattle.body_controller.specs.declared.plan.PlanInput.{PlanInput}
 use Rattle.body_controller.specs.declared.steer.SteerInput.{SteerInput}
 use Rattle.body_controller.specs.Counts.{countList}
-use Rattle.body_controller.specs.Calls.{Call, sight, plan, steer, finish, Reply, outcome, answer, accepted, refused}
-use Rattle.body_controller.specs.PlainDrive as Plain
-use Rattle.body_controller.specs.EveryList.{Entry, callsOf, Holds}
+use Rattle.plain_drive.specs.Calls.{Call, sight, plan, steer, finish, Reply, outcome, answer, accepted, refused}
+use Rattle.plain_drive.specs.PlainDrive as Plain
+use Rattle.plain_drive.specs.EveryList.{Entry, callsOf, Holds}
 use Rattle.line_text.specs.declared.Ending.{Ending}
 use Rattle.line_text.specs.declared.Ending.the-variants.{Wheels, Failed}
 use Rattle.line_text.specs.declared.Line.{Line}

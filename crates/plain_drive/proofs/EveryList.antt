@@ -20,25 +20,25 @@ use Rattle.vision_gate.specs.Vision.{active, newVision}
 use Rattle.maneuvers.specs.Memory.{emptyMemory}
 use Rattle.vision_gate.proofs.Outcomes.{Small}
 use Rattle.vision_gate.proofs.Held.{Held, held-active, unheld-inactive, held-widens}
 use Rattle.body_controller.specs.declared.controller.BodyController.{BodyController}
 use Rattle.body_controller.specs.declared.controller.Choices.{Choices}
 use Rattle.body_controller.specs.declared.controller.NewAnswer.the-variants as New
 use Rattle.body_controller.specs.declared.sight.SightInput.{SightInput}
 use Rattle.body_controller.specs.declared.sight.SightResult.{SightResult}
 use Rattle.body_controller.specs.declared.refusal.Refusal.the-variants.{OutOfTurn, TickLimit}
 use Rattle.body_controller.specs.Turn.{isSight}
 use Rattle.body_controller.specs.Counts.{noCounts, countList}
 use Rattle.body_controller.specs.Controller.{started, madeFrom, newOf, newNumber}
 use Rattle.body_controller.specs.Reset.{resetOf}
 use Rattle.body_controller.specs.Sight.{tickLimit, visionSeen, sighted, sightRefused, sightOf}
 use Rattle.body_controller.specs.Plan.{planOf}
 use Rattle.body_controller.specs.Steer.{steerOf}
 use Rattle.body_controller.specs.Finish.{finishOf}
-use Rattle.body_controller.specs.Calls.{Call, sight, plan, steer, finish, reset, Reply, outcome, answer, accepted, refused, isTick, took}
-use Rattle.body_controller.specs.PlainDrive.{DriveState, start, step, driven, drivenReplies, resetsAfter}
-use Rattle.body_controller.specs.EveryList.{sightReply, planReply, steerReply, finishReply, Meets, Entry, Made, callsOf, repliesOf, ticksIn, since, holding, tookWithin, driveOf, total, gatheredIn, AllWithin, Demand3, EveryListRuns, NothingWraps, ActiveMeansSeen}
-use Rattle.body_controller.proofs.Simulation.{Follows, sight-follows, plan-follows, steer-follows, finish-follows, reset-follows}
-use Rattle.body_controller.proofs.Watched.{visionOf, Seen, Watched, drive-watched}
+use Rattle.plain_drive.specs.Calls.{Call, sight, plan, steer, finish, reset, Reply, outcome, answer, accepted, refused, isTick, took}
+use Rattle.plain_drive.specs.PlainDrive.{DriveState, start, step, driven, drivenReplies, resetsAfter}
+use Rattle.plain_drive.specs.EveryList.{sightReply, planReply, steerReply, finishReply, Meets, Entry, Made, callsOf, repliesOf, ticksIn, since, holding, tookWithin, driveOf, total, gatheredIn, AllWithin, Demand3, EveryListRuns, NothingWraps, ActiveMeansSeen}
+use Rattle.plain_drive.proofs.Simulation.{Follows, sight-follows, plan-follows, steer-follows, finish-follows, reset-follows}
+use Rattle.plain_drive.proofs.Watched.{visionOf, Seen, Watched, drive-watched}
 
 -- ---- the start
 
