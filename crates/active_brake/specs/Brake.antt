@@ -2,14 +2,14 @@
 use Prim.Native.Nat.{ℕ}
 use mathlib.Core.Bool.{cond}
 use lib.Ieee.{neg}
-use Rattle.linear.specs.declared.vector.Vector4f.{Vector4f}
+use Rattle.linear.specs.declared.Vector4f.{Vector4f}
 use Rattle.linear.specs.Vector.{zeroFloat, zeros4}
 use Rattle.controller_params.specs.Params.{brakeKp, brakeAntiJitterRads, brakeMaxCurrentA}
 use Rattle.tick_length.specs.TickLength.{isTickLength, secondsOf}
 use Rattle.tick_length.specs.TickLength as tick
-use Rattle.pid.specs.declared.axis.PidController.{PidController}
-use Rattle.pid.specs.declared.axis.AntiJitterThresh.the-variants.{Below}
-use Rattle.pid.specs.declared.axis.OutputLimits.the-variants.{Between}
+use Rattle.pid.specs.declared.PidController.{PidController}
+use Rattle.pid.specs.declared.AntiJitterThresh.the-variants.{Below}
+use Rattle.pid.specs.declared.OutputLimits.the-variants.{Between}
 use Rattle.pid.specs.Axis.{newController}
 use Rattle.pid.specs.Widths.{calculated4, reset4}
 use Rattle.active_brake.specs.declared.ActiveBrakeController.{ActiveBrakeController}

@@ -5,11 +5,11 @@ use controller_params::BRAKE_ANTI_JITTER_RADS;
 use controller_params::BRAKE_KP;
 use controller_params::BRAKE_MAX_CURRENT_A;
 use controller_params::PidGains;
-use linear::vector::Vector4f;
-use pid::axes::PidController4;
-use pid::axis::AntiJitterThresh;
-use pid::axis::OutputLimits;
-use pid::axis::PidController;
+use linear::Vector4f;
+use pid::AntiJitterThresh;
+use pid::OutputLimits;
+use pid::PidController;
+use pid::PidController4;
 use tick_length::TickLength;
 use tick_length::TickLengthAnswer;
 

@@ -5,14 +5,14 @@ use mathlib.Core.Bool.{Bool, true, false, cond}
 use native.Mathlib.Omega.{arith}
 use borrow.Author.Tests.{eqb-true, eqb-false, le-ltb}
 use lib.Dec.{eqb}
-use Rattle.maneuvers.specs.declared.command.CommandAnswer.{CommandAnswer}
-use Rattle.maneuvers.specs.declared.command.CommandAnswer.the-variants as Command
-use Rattle.maneuvers.specs.declared.command.CommandWords.{CommandWords}
+use Rattle.maneuvers.specs.declared.CommandAnswer.{CommandAnswer}
+use Rattle.maneuvers.specs.declared.CommandAnswer.the-variants as Command
+use Rattle.maneuvers.specs.declared.CommandWords.{CommandWords}
 use Rattle.maneuvers.specs.Command.{isMode, commandFrom, refusalNumber}
-use Rattle.body_controller.specs.declared.controller.BodyController.{BodyController}
-use Rattle.body_controller.specs.declared.plan.PlanInput.{PlanInput}
-use Rattle.body_controller.specs.declared.steer.SteerInput.{SteerInput}
-use Rattle.body_controller.specs.declared.turn.Planned.{Planned}
+use Rattle.body_controller.specs.declared.BodyController.{BodyController}
+use Rattle.body_controller.specs.declared.PlanInput.{PlanInput}
+use Rattle.body_controller.specs.declared.SteerInput.{SteerInput}
+use Rattle.body_controller.specs.declared.Planned.{Planned}
 use Rattle.body_controller.specs.Plan.{planned, planWith, planNumber}
 use Rattle.body_controller.specs.Steer.{limited, steered, failsAt, steerWith, steerNumber}
 

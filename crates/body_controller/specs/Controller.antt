@@ -7,16 +7,16 @@ use Rattle.tick_length.specs.declared.TickLengthAnswer.the-variants as Length
 use Rattle.tick_length.specs.TickLength.{tickLengthOf}
 use Rattle.vision_gate.specs.Vision.{newVision}
 use Rattle.maneuvers.specs.Memory.{emptyMemory}
-use Rattle.tracking.specs.declared.recovery.TrackingDivergenceState.the-variants.{Normal}
+use Rattle.tracking.specs.declared.TrackingDivergenceState.the-variants.{Normal}
 use Rattle.tracking.specs.Setpoints.{posePid}
-use Rattle.body_controller.specs.declared.controller.BodyController.{BodyController}
-use Rattle.body_controller.specs.declared.controller.Choices.{Choices}
-use Rattle.body_controller.specs.declared.controller.NewAnswer.{NewAnswer}
-use Rattle.body_controller.specs.declared.controller.NewAnswer.the-variants.{Made, Refused}
-use Rattle.body_controller.specs.declared.outputs.Outputs.{Outputs}
-use Rattle.body_controller.specs.declared.refusal.Refusal.the-variants.{TickLength}
-use Rattle.body_controller.specs.declared.turn.Turn.{Turn}
-use Rattle.body_controller.specs.declared.turn.Turn.the-variants as Turns
+use Rattle.body_controller.specs.declared.BodyController.{BodyController}
+use Rattle.body_controller.specs.declared.Choices.{Choices}
+use Rattle.body_controller.specs.declared.NewAnswer.{NewAnswer}
+use Rattle.body_controller.specs.declared.NewAnswer.the-variants.{Made, Refused}
+use Rattle.body_controller.specs.declared.Outputs.{Outputs}
+use Rattle.body_controller.specs.declared.Refusal.the-variants.{TickLength}
+use Rattle.body_controller.specs.declared.Turn.{Turn}
+use Rattle.body_controller.specs.declared.Turn.the-variants as Turns
 use Rattle.body_controller.specs.Refusal.{refusalNumber}
 use Rattle.body_controller.specs.Counts.{noCounts}
 

@@ -4,9 +4,9 @@ use Prim.Native.Nat.{ℕ, _+_, _%_, _^_}
 use mathlib.Core.Bool.{cond}
 use mathlib.Core.List.{List, [], _∷_}
 use lib.Dec.{eqb}
-use Rattle.vision_gate.specs.declared.gate.GateAction.{GateAction}
+use Rattle.vision_gate.specs.declared.GateAction.{GateAction}
 use Rattle.vision_gate.specs.Outcome.{numberOf}
-use Rattle.body_controller.specs.declared.counts.Counts.{Counts}
+use Rattle.body_controller.specs.declared.Counts.{Counts}
 
 unfoldable pub noCounts : Counts
 noCounts = record { quiet = 0; gathered = 0; complete = 0; reseeded = 0; taken = 0; jump = 0; first = 0; refused = 0 }

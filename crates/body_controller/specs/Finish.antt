@@ -1,17 +1,17 @@
 -- Finish, document 01, 'The tick's four calls' and 'When a call is turned away'. Assumes nothing.
 use Prim.Native.Nat.{ℕ}
-use Rattle.tracking.specs.declared.outputs.FinishOutputs.{FinishOutputs}
+use Rattle.tracking.specs.declared.FinishOutputs.{FinishOutputs}
 use Rattle.tracking.specs.Outputs.{finishOutputs}
-use Rattle.body_controller.specs.declared.controller.BodyController.{BodyController}
-use Rattle.body_controller.specs.declared.finish.FinishInput.{FinishInput}
-use Rattle.body_controller.specs.declared.finish.FinishAnswer.{FinishAnswer}
-use Rattle.body_controller.specs.declared.finish.FinishAnswer.the-variants.{Accepted, Refused}
-use Rattle.body_controller.specs.declared.finish.FinishResult.{FinishResult}
-use Rattle.body_controller.specs.declared.outputs.Outputs.{Outputs}
-use Rattle.body_controller.specs.declared.refusal.Refusal.the-variants.{OutOfTurn}
-use Rattle.body_controller.specs.declared.turn.Steered.{Steered}
-use Rattle.body_controller.specs.declared.turn.Turn.{Turn}
-use Rattle.body_controller.specs.declared.turn.Turn.the-variants as Turns
+use Rattle.body_controller.specs.declared.BodyController.{BodyController}
+use Rattle.body_controller.specs.declared.FinishInput.{FinishInput}
+use Rattle.body_controller.specs.declared.FinishAnswer.{FinishAnswer}
+use Rattle.body_controller.specs.declared.FinishAnswer.the-variants.{Accepted, Refused}
+use Rattle.body_controller.specs.declared.FinishResult.{FinishResult}
+use Rattle.body_controller.specs.declared.Outputs.{Outputs}
+use Rattle.body_controller.specs.declared.Refusal.the-variants.{OutOfTurn}
+use Rattle.body_controller.specs.declared.Steered.{Steered}
+use Rattle.body_controller.specs.declared.Turn.{Turn}
+use Rattle.body_controller.specs.declared.Turn.the-variants as Turns
 use Rattle.body_controller.specs.Refusal.{refusalNumber}
 
 -- what finish works out of steer's setpoints

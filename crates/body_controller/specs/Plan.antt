@@ -2,23 +2,23 @@
 use Prim.Native.Nat.{ℕ}
 use mathlib.Core.Bool.{Bool, true, false, cond, _||_}
 use Rattle.vision_gate.specs.Vision.{active}
-use Rattle.maneuvers.specs.declared.command.ManeuverCommand.{ManeuverCommand}
-use Rattle.maneuvers.specs.declared.command.CommandAnswer.{CommandAnswer}
-use Rattle.maneuvers.specs.declared.command.CommandAnswer.the-variants as Command
-use Rattle.maneuvers.specs.declared.plan.PlanAnswer.{PlanAnswer}
-use Rattle.maneuvers.specs.declared.plan.PlanAnswer.the-variants.{Hold, NoVision, Keep, NewPlan}
-use Rattle.maneuvers.specs.declared.plan.Decision.{Decision}
+use Rattle.maneuvers.specs.declared.ManeuverCommand.{ManeuverCommand}
+use Rattle.maneuvers.specs.declared.CommandAnswer.{CommandAnswer}
+use Rattle.maneuvers.specs.declared.CommandAnswer.the-variants as Command
+use Rattle.maneuvers.specs.declared.PlanAnswer.{PlanAnswer}
+use Rattle.maneuvers.specs.declared.PlanAnswer.the-variants.{Hold, NoVision, Keep, NewPlan}
+use Rattle.maneuvers.specs.declared.Decision.{Decision}
 use Rattle.maneuvers.specs.Command.{isMode, commandFrom}
 use Rattle.maneuvers.specs.Plan.{decided}
 use Rattle.tracking.specs.Recovery.{isRecovering}
-use Rattle.body_controller.specs.declared.controller.BodyController.{BodyController}
-use Rattle.body_controller.specs.declared.plan.PlanInput.{PlanInput}
-use Rattle.body_controller.specs.declared.plan.PlanCallAnswer.{PlanCallAnswer}
-use Rattle.body_controller.specs.declared.plan.PlanCallAnswer.the-variants.{Accepted, Refused}
-use Rattle.body_controller.specs.declared.plan.PlanResult.{PlanResult}
-use Rattle.body_controller.specs.declared.refusal.Refusal.{Refusal}
-use Rattle.body_controller.specs.declared.refusal.Refusal.the-variants.{OutOfTurn, Mode, EstimatorFailed}
-use Rattle.body_controller.specs.declared.turn.Turn.the-variants as Turns
+use Rattle.body_controller.specs.declared.BodyController.{BodyController}
+use Rattle.body_controller.specs.declared.PlanInput.{PlanInput}
+use Rattle.body_controller.specs.declared.PlanCallAnswer.{PlanCallAnswer}
+use Rattle.body_controller.specs.declared.PlanCallAnswer.the-variants.{Accepted, Refused}
+use Rattle.body_controller.specs.declared.PlanResult.{PlanResult}
+use Rattle.body_controller.specs.declared.Refusal.{Refusal}
+use Rattle.body_controller.specs.declared.Refusal.the-variants.{OutOfTurn, Mode, EstimatorFailed}
+use Rattle.body_controller.specs.declared.Turn.the-variants as Turns
 use Rattle.body_controller.specs.Refusal.{refusalNumber}
 use Rattle.body_controller.specs.Controller.{inTurn}
 use Rattle.body_controller.specs.Turn.{isPlan}

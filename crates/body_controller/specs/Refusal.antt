@@ -1,7 +1,7 @@
 -- Document 01, 'When a call is turned away': the numbers of the refusals that a call can give. Assumes nothing.
 use Prim.Native.Nat.{ℕ}
-use Rattle.body_controller.specs.declared.refusal.Refusal.{Refusal}
-use Rattle.body_controller.specs.declared.refusal.Refusal.the-variants.{TickLength, OutOfTurn, TickLimit, Mode, EstimatorFailed, PlannerFailed}
+use Rattle.body_controller.specs.declared.Refusal.{Refusal}
+use Rattle.body_controller.specs.declared.Refusal.the-variants.{TickLength, OutOfTurn, TickLimit, Mode, EstimatorFailed, PlannerFailed}
 
 -- document 01's number
 abbrev pub refusalNumber : Refusal → ℕ

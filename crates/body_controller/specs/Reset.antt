@@ -3,9 +3,9 @@ use mathlib.Core.Bool.{true}
 use Rattle.pid.specs.Widths.{reset3}
 use Rattle.vision_gate.specs.Vision.{newVision}
 use Rattle.maneuvers.specs.Memory.{emptyMemory}
-use Rattle.tracking.specs.declared.recovery.TrackingDivergenceState.the-variants.{Normal}
-use Rattle.body_controller.specs.declared.controller.BodyController.{BodyController}
-use Rattle.body_controller.specs.declared.turn.Turn.the-variants.{Sight}
+use Rattle.tracking.specs.declared.TrackingDivergenceState.the-variants.{Normal}
+use Rattle.body_controller.specs.declared.BodyController.{BodyController}
+use Rattle.body_controller.specs.declared.Turn.the-variants.{Sight}
 use Rattle.body_controller.specs.Controller.{noOutputs}
 
 -- recovery's reset: 'wheels keep their disabled mark and the estimate stays'

@@ -3,23 +3,23 @@ use Prim.Native.Nat.{ℕ, _+_, _%_, _^_}
 use mathlib.Core.Bool.{false, cond}
 use lib.Dec.{ltb}
 use Rattle.tick_length.specs.TickLength.{secondsOf}
-use Rattle.pid.specs.declared.axes.PidController3.{PidController3}
+use Rattle.pid.specs.declared.PidController3.{PidController3}
 use Rattle.pid.specs.Widths.{reset3}
-use Rattle.vision_gate.specs.declared.gate.GateAction.{GateAction}
-use Rattle.vision_gate.specs.declared.vision.VisionAnswer.{VisionAnswer}
+use Rattle.vision_gate.specs.declared.GateAction.{GateAction}
+use Rattle.vision_gate.specs.declared.VisionAnswer.{VisionAnswer}
 use Rattle.vision_gate.specs.Outcome.{takes, overwrites}
 use Rattle.vision_gate.specs.Prediction.{predictedAfter}
 use Rattle.vision_gate.specs.Vision.{visionAfter}
-use Rattle.maneuvers.specs.declared.memory.Memory.{Memory}
+use Rattle.maneuvers.specs.declared.Memory.{Memory}
 use Rattle.maneuvers.specs.Memory.{emptyMemory}
-use Rattle.body_controller.specs.declared.controller.BodyController.{BodyController}
-use Rattle.body_controller.specs.declared.refusal.Refusal.{Refusal}
-use Rattle.body_controller.specs.declared.refusal.Refusal.the-variants.{OutOfTurn, TickLimit}
-use Rattle.body_controller.specs.declared.sight.SightInput.{SightInput}
-use Rattle.body_controller.specs.declared.sight.SightAnswer.{SightAnswer}
-use Rattle.body_controller.specs.declared.sight.SightAnswer.the-variants.{Accepted, Refused}
-use Rattle.body_controller.specs.declared.sight.SightResult.{SightResult}
-use Rattle.body_controller.specs.declared.turn.Turn.the-variants as Turns
+use Rattle.body_controller.specs.declared.BodyController.{BodyController}
+use Rattle.body_controller.specs.declared.Refusal.{Refusal}
+use Rattle.body_controller.specs.declared.Refusal.the-variants.{OutOfTurn, TickLimit}
+use Rattle.body_controller.specs.declared.SightInput.{SightInput}
+use Rattle.body_controller.specs.declared.SightAnswer.{SightAnswer}
+use Rattle.body_controller.specs.declared.SightAnswer.the-variants.{Accepted, Refused}
+use Rattle.body_controller.specs.declared.SightResult.{SightResult}
+use Rattle.body_controller.specs.declared.Turn.the-variants as Turns
 use Rattle.body_controller.specs.Refusal.{refusalNumber}
 use Rattle.body_controller.specs.Counts.{counted}
 use Rattle.body_controller.specs.Turn.{isSight}

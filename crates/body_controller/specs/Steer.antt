@@ -1,34 +1,34 @@
 -- Steer, document 01, 'The tick's four calls' and 'When a call is turned away'. Assumes nothing.
 use Prim.Native.Nat.{ℕ}
 use mathlib.Core.Bool.{Bool, true, false, cond, _&&_}
-use Rattle.linear.specs.declared.vector.Vector4f.{Vector4f}
+use Rattle.linear.specs.declared.Vector4f.{Vector4f}
 use Rattle.tick_length.specs.TickLength.{secondsOf}
-use Rattle.maneuvers.specs.declared.command.ManeuverCommand.{ManeuverCommand}
-use Rattle.maneuvers.specs.declared.memory.Sample.{Sample}
-use Rattle.maneuvers.specs.declared.memory.HeldSample.{HeldSample}
-use Rattle.maneuvers.specs.declared.memory.HeldSample.the-variants as Samples
-use Rattle.maneuvers.specs.declared.plan.PlanAnswer.{PlanAnswer}
-use Rattle.maneuvers.specs.declared.plan.PlanAnswer.the-variants.{Hold, NoVision, Keep, NewPlan}
+use Rattle.maneuvers.specs.declared.ManeuverCommand.{ManeuverCommand}
+use Rattle.maneuvers.specs.declared.Sample.{Sample}
+use Rattle.maneuvers.specs.declared.HeldSample.{HeldSample}
+use Rattle.maneuvers.specs.declared.HeldSample.the-variants as Samples
+use Rattle.maneuvers.specs.declared.PlanAnswer.{PlanAnswer}
+use Rattle.maneuvers.specs.declared.PlanAnswer.the-variants.{Hold, NoVision, Keep, NewPlan}
 use Rattle.maneuvers.specs.Memory.{trajectoryDropped, afterTracking}
-use Rattle.tracking.specs.declared.recovery.HeldState.{HeldState}
-use Rattle.tracking.specs.declared.recovery.HeldState.the-variants as States
-use Rattle.tracking.specs.declared.recovery.RecoveryAnswer.{RecoveryAnswer}
-use Rattle.tracking.specs.declared.setpoints.ManeuverSetpoints.{ManeuverSetpoints}
+use Rattle.tracking.specs.declared.HeldState.{HeldState}
+use Rattle.tracking.specs.declared.HeldState.the-variants as States
+use Rattle.tracking.specs.declared.RecoveryAnswer.{RecoveryAnswer}
+use Rattle.tracking.specs.declared.ManeuverSetpoints.{ManeuverSetpoints}
 use Rattle.tracking.specs.Setpoints.{zeroSetpoints, trackingSetpoints}
 use Rattle.tracking.specs.Recovery.{recovery}
 use Rattle.tracking.specs.Limits.{stopScaled, twistClamped}
 use Rattle.tracking.specs.Friction.{frictionTwist}
-use Rattle.body_controller.specs.declared.controller.BodyController.{BodyController}
-use Rattle.body_controller.specs.declared.refusal.Refusal.{Refusal}
-use Rattle.body_controller.specs.declared.refusal.Refusal.the-variants.{OutOfTurn, PlannerFailed}
-use Rattle.body_controller.specs.declared.steer.SteerInput.{SteerInput}
-use Rattle.body_controller.specs.declared.steer.SteerAnswer.{SteerAnswer}
-use Rattle.body_controller.specs.declared.steer.SteerAnswer.the-variants.{Accepted, Refused}
-use Rattle.body_controller.specs.declared.steer.SteerResult.{SteerResult}
-use Rattle.body_controller.specs.declared.steer.Setpoints.{Setpoints}
-use Rattle.body_controller.specs.declared.turn.Planned.{Planned}
-use Rattle.body_controller.specs.declared.turn.Turn.{Turn}
-use Rattle.body_controller.specs.declared.turn.Turn.the-variants as Turns
+use Rattle.body_controller.specs.declared.BodyController.{BodyController}
+use Rattle.body_controller.specs.declared.Refusal.{Refusal}
+use Rattle.body_controller.specs.declared.Refusal.the-variants.{OutOfTurn, PlannerFailed}
+use Rattle.body_controller.specs.declared.SteerInput.{SteerInput}
+use Rattle.body_controller.specs.declared.SteerAnswer.{SteerAnswer}
+use Rattle.body_controller.specs.declared.SteerAnswer.the-variants.{Accepted, Refused}
+use Rattle.body_controller.specs.declared.SteerResult.{SteerResult}
+use Rattle.body_controller.specs.declared.Setpoints.{Setpoints}
+use Rattle.body_controller.specs.declared.Planned.{Planned}
+use Rattle.body_controller.specs.declared.Turn.{Turn}
+use Rattle.body_controller.specs.declared.Turn.the-variants as Turns
 use Rattle.body_controller.specs.Refusal.{refusalNumber}
 use Rattle.body_controller.specs.Controller.{inTurn}
 use Rattle.body_controller.specs.Reset.{contextReset}

@@ -1,7 +1,7 @@
 -- The turn, a term of document 01: which of the tick's four calls is next. Assumes nothing.
 use mathlib.Core.Bool.{Bool, true, false}
-use Rattle.body_controller.specs.declared.turn.Turn.{Turn}
-use Rattle.body_controller.specs.declared.turn.Turn.the-variants.{Sight, Plan, Steer, Finish}
+use Rattle.body_controller.specs.declared.Turn.{Turn}
+use Rattle.body_controller.specs.declared.Turn.the-variants.{Sight, Plan, Steer, Finish}
 
 -- it is sight's turn
 abbrev pub isSight : Turn → Bool

@@ -5,44 +5,21 @@ ghost use Rattle.vision_gate.specs.Vision.{active};
 ghost use Rattle.tracking.specs.Recovery.{isRecovering};
 ghost use Rattle.body_controller.specs.Controller.{started, newOf, newNumber, inTurn};
 ghost use Rattle.body_controller.specs.Reset.{contextReset, resetOf};
-use crate::counts::Counts;
-use crate::outputs::Outputs;
-use crate::refusal::Refusal;
-use crate::turn::Phase;
-use crate::turn::Turn;
-use linear::vector::Vector6f;
-use maneuvers::memory::Memory;
-use pid::axes::PidController3;
+use crate::BodyController;
+use crate::Choices;
+use crate::Counts;
+use crate::NewAnswer;
+use crate::Outputs;
+use crate::Phase;
+use crate::Refusal;
+use crate::Turn;
+use linear::Vector6f;
+use maneuvers::Memory;
 use tick_length::TickLength;
 use tick_length::TickLengthAnswer;
-use tracking::recovery::TrackingDivergenceState;
+use tracking::TrackingDivergenceState;
 use tracking::setpoints::pose_pid;
-use vision_gate::vision::Vision;
-
-// What is chosen once, at the start.
-pub struct Choices {
-    pub tick: TickLength,
-}
-
-pub struct BodyController {
-    pub(crate) choices: Choices,
-    pub(crate) vision: Vision,
-    pub(crate) memory: Memory,
-    pub(crate) phase: Phase,
-    pub(crate) pose_pid_controller: PidController3,
-    pub(crate) state_estimate: Vector6f,
-    pub(crate) prev_mode: u32,
-    pub(crate) wheels_disabled: bool,
-    pub(crate) outputs: Outputs,
-    pub(crate) ticks: u32,
-    pub(crate) counts: Counts,
-}
-
-// A controller, or document 01's refusal 1.
-pub enum NewAnswer {
-    Made(BodyController),
-    Refused(Refusal),
-}
+use vision_gate::Vision;
 
 impl BodyController {
     // The Rust's new controller, with nothing counted, at sight's turn.

@@ -1,41 +1,16 @@
 // Finish, the tick's last call: the outputs.
 ghost use mathlib.Core.Path.{_≡_};
 ghost use Rattle.body_controller.specs.Finish.{finished, finishRefused, finishOf, finishNumber, finishRefusal};
-use crate::controller::BodyController;
-use crate::outputs::Outputs;
-use crate::refusal::Refusal;
-use crate::turn::Steered;
-use crate::turn::Turn;
-use linear::matrix::Matrix3;
-use linear::matrix::Matrix4x3;
-use linear::vector::Vector3f;
+use crate::BodyController;
+use crate::FinishAnswer;
+use crate::FinishInput;
+use crate::FinishResult;
+use crate::Finished;
+use crate::Outputs;
+use crate::Refusal;
+use crate::Steered;
+use crate::Turn;
 use tracking::outputs::finish_outputs;
-
-pub struct FinishInput {
-    // Inverse inertia.
-    pub i_inv: Matrix3,
-    pub twist2wheel: Matrix4x3,
-    pub accel2wheel: Matrix4x3,
-    pub friction_force_local: Vector3f,
-}
-
-pub struct Finished {
-    pub outputs: Outputs,
-    // The two clamp marks.
-    pub vel_clamped: bool,
-    pub accel_clamped: bool,
-    pub wheels_disabled: bool,
-}
-
-pub enum FinishAnswer {
-    Accepted(Finished),
-    Refused(Refusal),
-}
-
-pub struct FinishResult {
-    pub answer: FinishAnswer,
-    pub controller: BodyController,
-}
 
 impl BodyController {
     // The outputs that steer's setpoints give; sight is next.

@@ -1,11 +1,231 @@
 // `BodyController` by value: a tick is the calls sight, plan, steer and finish, in this order, and
 // reset may come at any turn. Each call takes the controller and hands it back beside its answer.
 pub mod controller; // controller.rt: the controller, new, reset and its marks
-pub mod counts; // counts.rt: how often each outcome came
+pub mod count; // count.rt: how often each outcome came
 pub mod finish; // finish.rt: outputs
-pub mod outputs; // outputs.rt: the five vectors that a tick gives
+pub mod output; // output.rt: the five vectors that a tick gives
 pub mod plan; // plan.rt: the estimate and the decision
-pub mod refusal; // refusal.rt: document 01's numbers
+pub mod refusals; // refusals.rt: document 01's numbers
 pub mod sight; // sight.rt: the gate
 pub mod steer; // steer.rt: tracking and recovery
-pub mod turn; // turn.rt: which call is next, and what it needs of the ones before
+pub mod turns; // turns.rt: which call is next, and what it needs of the ones before
+
+use linear::Matrix3;
+use linear::Matrix3x4;
+use linear::Matrix4x3;
+use linear::Vector3f;
+use linear::Vector4f;
+use linear::Vector6f;
+use maneuvers::CommandWords;
+use maneuvers::ManeuverCommand;
+use maneuvers::Memory;
+use maneuvers::PlanAnswer;
+use maneuvers::Sample;
+use pid::PidController3;
+use tick_length::TickLength;
+use tracking::ManeuverSetpoints;
+use tracking::TrackingDivergenceState;
+use vision_gate::GateAction;
+use vision_gate::Vision;
+
+// What is chosen once, at the start.
+pub struct Choices {
+    pub tick: TickLength,
+}
+
+pub struct BodyController {
+    pub(crate) choices: Choices,
+    pub(crate) vision: Vision,
+    pub(crate) memory: Memory,
+    pub(crate) phase: Phase,
+    pub(crate) pose_pid_controller: PidController3,
+    pub(crate) state_estimate: Vector6f,
+    pub(crate) prev_mode: u32,
+    pub(crate) wheels_disabled: bool,
+    pub(crate) outputs: Outputs,
+    pub(crate) ticks: u32,
+    pub(crate) counts: Counts,
+}
+
+// A controller, or document 01's refusal 1.
+pub enum NewAnswer {
+    Made(BodyController),
+    Refused(Refusal),
+}
+
+// In document 01's order, Q to R, under its words for the outcomes.
+pub struct Counts {
+    pub quiet: u32,
+    pub gathered: u32,
+    pub complete: u32,
+    pub reseeded: u32,
+    pub taken: u32,
+    pub jump: u32,
+    pub first: u32,
+    pub refused: u32,
+}
+
+pub struct FinishInput {
+    // Inverse inertia.
+    pub i_inv: Matrix3,
+    pub twist2wheel: Matrix4x3,
+    pub accel2wheel: Matrix4x3,
+    pub friction_force_local: Vector3f,
+}
+
+pub struct Finished {
+    pub outputs: Outputs,
+    // The two clamp marks.
+    pub vel_clamped: bool,
+    pub accel_clamped: bool,
+    pub wheels_disabled: bool,
+}
+
+pub enum FinishAnswer {
+    Accepted(Finished),
+    Refused(Refusal),
+}
+
+pub struct FinishResult {
+    pub answer: FinishAnswer,
+    pub controller: BodyController,
+}
+
+pub struct Outputs {
+    pub body_twist_out: Vector3f,
+    pub body_accel_out: Vector3f,
+    pub body_accel_out_fric_comp: Vector3f,
+    pub wheel_vel_out: Vector4f,
+    pub wheel_torque_out: Vector4f,
+}
+
+pub struct PlanInput {
+    // The estimator's new estimate.
+    pub state_estimate: Vector6f,
+    pub halt: bool,
+    pub mode: u32,
+    pub words: CommandWords,
+    pub estimator_failed: bool,
+}
+
+pub enum PlanCallAnswer {
+    Accepted(PlanAnswer),
+    Refused(Refusal),
+}
+
+pub struct PlanResult {
+    pub answer: PlanCallAnswer,
+    pub controller: BodyController,
+}
+
+// Document 01, 'When a call is turned away', in its order.
+pub enum Refusal {
+    // 1: k not 1..64
+    TickLength,
+    // 2: call out of turn
+    OutOfTurn,
+    // 3: sight after 16,777,216 ticks
+    TickLimit,
+    // 4: mode not 0..3
+    Mode,
+    // 11
+    EstimatorFailed,
+    // 12
+    PlannerFailed,
+}
+
+pub struct SightInput {
+    pub vision_pose_meas: Vector3f,
+    // Whether there is a sighting.
+    pub vision_update: bool,
+    pub wheel_vel_meas: Vector4f,
+    pub imu_gyro_theta_meas: f32,
+    pub predicted_state: Vector6f,
+    // At the sighted heading.
+    pub wheel2twist: Matrix3x4,
+}
+
+// The estimator's eight numbers.
+pub struct Measurement {
+    pub vision_pose: Vector3f,
+    pub wheel_vel: Vector4f,
+    pub gyro_theta: f32,
+}
+
+pub struct Sighted {
+    pub action: GateAction,
+    pub measurement: Measurement,
+    // Whether vision counts.
+    pub effective_vision_update: bool,
+    // After any overwriting.
+    pub state_prediction: Vector6f,
+}
+
+pub enum SightAnswer {
+    Accepted(Sighted),
+    Refused(Refusal),
+}
+
+pub struct SightResult {
+    pub answer: SightAnswer,
+    pub controller: BodyController,
+}
+
+pub struct SteerInput {
+    // What a new plan gives for this tick.
+    pub fresh: Sample,
+    // What the tracked plan gives for the next one.
+    pub next: Sample,
+    pub wheel_vel_meas: Vector4f,
+    // Of the estimate's heading.
+    pub cos: f32,
+    pub sin: f32,
+    pub stop: bool,
+    pub planner_failed: bool,
+}
+
+pub enum SteerAnswer {
+    // The friction twist, local and gated.
+    Accepted(Vector3f),
+    Refused(Refusal),
+}
+
+pub struct SteerResult {
+    pub answer: SteerAnswer,
+    pub controller: BodyController,
+}
+
+// Setpoints, beside the controller that gave them.
+pub struct Setpoints {
+    pub setpoints: ManeuverSetpoints,
+    pub controller: BodyController,
+}
+
+// What plan leaves to steer.
+pub struct Planned {
+    pub answer: PlanAnswer,
+    pub cmd: ManeuverCommand,
+}
+
+// What steer leaves to finish: limited setpoints, and the cosine and sine of the estimate's heading.
+pub struct Steered {
+    pub body_twist: Vector3f,
+    pub body_accel: Vector3f,
+    pub vel_clamped: bool,
+    pub cos: f32,
+    pub sin: f32,
+}
+
+// The turn, a term of document 01.
+pub enum Turn {
+    Sight,
+    Plan,
+    Steer(Planned),
+    Finish(Steered),
+}
+
+// The two states that calls branch on.
+pub struct Phase {
+    pub state: TrackingDivergenceState,
+    pub turn: Turn,
+}

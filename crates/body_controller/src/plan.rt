@@ -2,36 +2,18 @@
 ghost use mathlib.Core.Path.{_≡_};
 ghost use Rattle.body_controller.specs.Plan.{disablesWheels, planned, planWith, planOf, planNumber, planRefusal};
 ghost use Rattle.maneuvers.specs.Command.{commandFrom};
-use crate::controller::BodyController;
-use crate::refusal::Refusal;
-use crate::turn::Phase;
-use crate::turn::Planned;
-use crate::turn::Turn;
-use linear::vector::Vector6f;
-use maneuvers::command::CommandAnswer;
-use maneuvers::command::CommandWords;
-use maneuvers::command::ManeuverCommand;
-use maneuvers::plan::PlanAnswer;
+use crate::BodyController;
+use crate::Phase;
+use crate::PlanCallAnswer;
+use crate::PlanInput;
+use crate::PlanResult;
+use crate::Planned;
+use crate::Refusal;
+use crate::Turn;
+use maneuvers::CommandAnswer;
+use maneuvers::ManeuverCommand;
+use maneuvers::PlanAnswer;
 use maneuvers::plan::decide;
-
-pub struct PlanInput {
-    // The estimator's new estimate.
-    pub state_estimate: Vector6f,
-    pub halt: bool,
-    pub mode: u32,
-    pub words: CommandWords,
-    pub estimator_failed: bool,
-}
-
-pub enum PlanCallAnswer {
-    Accepted(PlanAnswer),
-    Refused(Refusal),
-}
-
-pub struct PlanResult {
-    pub answer: PlanCallAnswer,
-    pub controller: BodyController,
-}
 
 // Without vision the wheels are disabled.
 fn disables_wheels(answer: PlanAnswer) -> bool

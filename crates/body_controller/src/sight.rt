@@ -1,58 +1,22 @@
 // Sight, the tick's first call: what becomes of the sighting.
 ghost use mathlib.Core.Path.{_≡_};
 ghost use Rattle.body_controller.specs.Sight.{memoryAfter, pidAfter, sighted, sightOf, sightNumber, sightRefusal};
-use crate::controller::BodyController;
-use crate::refusal::Refusal;
-use crate::turn::Phase;
-use crate::turn::Turn;
-use linear::matrix::Matrix3x4;
-use linear::vector::Vector3f;
-use linear::vector::Vector4f;
-use linear::vector::Vector6f;
-use maneuvers::memory::Memory;
-use pid::axes::PidController3;
-use vision_gate::gate::GateAction;
+use crate::BodyController;
+use crate::Measurement;
+use crate::Phase;
+use crate::Refusal;
+use crate::SightAnswer;
+use crate::SightInput;
+use crate::SightResult;
+use crate::Sighted;
+use crate::Turn;
+use maneuvers::Memory;
+use pid::PidController3;
+use vision_gate::GateAction;
 use vision_gate::prediction::predict_after;
 
 // Ticks that a controller can count.
 pub const TICK_LIMIT: u32 = 16_777_216;
-
-pub struct SightInput {
-    pub vision_pose_meas: Vector3f,
-    // Whether there is a sighting.
-    pub vision_update: bool,
-    pub wheel_vel_meas: Vector4f,
-    pub imu_gyro_theta_meas: f32,
-    pub predicted_state: Vector6f,
-    // At the sighted heading.
-    pub wheel2twist: Matrix3x4,
-}
-
-// The estimator's eight numbers.
-pub struct Measurement {
-    pub vision_pose: Vector3f,
-    pub wheel_vel: Vector4f,
-    pub gyro_theta: f32,
-}
-
-pub struct Sighted {
-    pub action: GateAction,
-    pub measurement: Measurement,
-    // Whether vision counts.
-    pub effective_vision_update: bool,
-    // After any overwriting.
-    pub state_prediction: Vector6f,
-}
-
-pub enum SightAnswer {
-    Accepted(Sighted),
-    Refused(Refusal),
-}
-
-pub struct SightResult {
-    pub answer: SightAnswer,
-    pub controller: BodyController,
-}
 
 fn memory_after(action: GateAction, memory: Memory) -> Memory
     ensures { λ r. ⌜ r ≡ memoryAfter action memory ⌝ }

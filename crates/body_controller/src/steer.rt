@@ -1,57 +1,30 @@
 // Steer, the tick's third call: setpoints that track the plan, recovery, stop and the twist's limits.
 ghost use mathlib.Core.Path.{_≡_};
 ghost use Rattle.body_controller.specs.Steer.{heldState, needsPlan, heldOr, tracked, followed, recovered, limited, steered, plannerFailed, steerRefused, steerWith, steerOf, steerNumber, steerRefusal};
-ghost use Rattle.body_controller.specs.declared.refusal.Refusal.the-variants.{OutOfTurn};
-use crate::controller::BodyController;
-use crate::refusal::Refusal;
-use crate::turn::Phase;
-use crate::turn::Planned;
-use crate::turn::Steered;
-use crate::turn::Turn;
-use linear::vector::Vector3f;
-use linear::vector::Vector4f;
-use maneuvers::command::ManeuverCommand;
-use maneuvers::memory::HeldSample;
-use maneuvers::memory::Memory;
-use maneuvers::memory::Sample;
-use maneuvers::plan::PlanAnswer;
+ghost use Rattle.body_controller.specs.declared.Refusal.the-variants.{OutOfTurn};
+use crate::BodyController;
+use crate::Phase;
+use crate::Planned;
+use crate::Refusal;
+use crate::Setpoints;
+use crate::SteerAnswer;
+use crate::SteerInput;
+use crate::SteerResult;
+use crate::Steered;
+use crate::Turn;
+use linear::Vector4f;
+use maneuvers::HeldSample;
+use maneuvers::ManeuverCommand;
+use maneuvers::Memory;
+use maneuvers::PlanAnswer;
+use maneuvers::Sample;
+use tracking::HeldState;
+use tracking::ManeuverSetpoints;
 use tracking::friction::friction_twist;
 use tracking::limits::clamp_twist;
 use tracking::limits::stop_scaled;
-use tracking::recovery::HeldState;
 use tracking::recovery::update_tracking_divergence_recovery;
-use tracking::setpoints::ManeuverSetpoints;
 use tracking::setpoints::calc_tracking_setpoints;
-
-pub struct SteerInput {
-    // What a new plan gives for this tick.
-    pub fresh: Sample,
-    // What the tracked plan gives for the next one.
-    pub next: Sample,
-    pub wheel_vel_meas: Vector4f,
-    // Of the estimate's heading.
-    pub cos: f32,
-    pub sin: f32,
-    pub stop: bool,
-    pub planner_failed: bool,
-}
-
-pub enum SteerAnswer {
-    // The friction twist, local and gated.
-    Accepted(Vector3f),
-    Refused(Refusal),
-}
-
-pub struct SteerResult {
-    pub answer: SteerAnswer,
-    pub controller: BodyController,
-}
-
-// Setpoints, beside the controller that gave them.
-pub struct Setpoints {
-    pub setpoints: ManeuverSetpoints,
-    pub controller: BodyController,
-}
 
 fn held_state(held: HeldSample) -> HeldState
     ensures { λ r. ⌜ r ≡ heldState held ⌝ }

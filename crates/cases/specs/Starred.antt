@@ -6,7 +6,7 @@ use lib.Ieee.{Float, nan, binary32, ofBits, toBits}
 use Rattle.ieee754.specs.Root.{squareRoot}
 use Rattle.ieee754.specs.Remainder.{remainderBy, tau}
 use Rattle.ieee754.specs.Hypot.{hypotenuse}
-use Rattle.linear.specs.declared.vector.Vector3f.{Vector3f}
+use Rattle.linear.specs.declared.Vector3f.{Vector3f}
 use Rattle.linear.specs.Vector.{zeroFloat}
 use Rattle.tick_length.specs.TickLength.{isTickLength, secondsOf, microsOf}
 use Rattle.pid.specs.Axis.{calculated}

@@ -2,7 +2,7 @@
 use Prim.Native.Nat.{ℕ}
 use mathlib.Core.List.{List, [], _∷_}
 use lib.Ieee.{Float, binary32, ofBits}
-use Rattle.linear.specs.declared.vector.Vector3f.{Vector3f}
+use Rattle.linear.specs.declared.Vector3f.{Vector3f}
 use Rattle.controller_params.specs.declared.PidGains.{PidGains}
 use Rattle.controller_params.specs.declared.TrackingErrors.{TrackingErrors}
 use Rattle.controller_params.specs.declared.FrictionGates.{FrictionGates}

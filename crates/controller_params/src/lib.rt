@@ -3,7 +3,7 @@
 // A caller takes one by its path, as controller_params::BRAKE_KP; specs/ has its bits.
 ghost use mathlib.Core.Path.{_≡_};
 ghost use Rattle.controller_params.specs.Params.{trackingValues, limitValues, countValues};
-use linear::vector::Vector3f;
+use linear::Vector3f;
 
 // A PID's gains for one axis, a row of the Rust's matrices.
 pub struct PidGains {

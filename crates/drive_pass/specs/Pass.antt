@@ -7,20 +7,20 @@ use lib.Dec.{eqb}
 use Rattle.vision_gate.specs.Outcome.{letterOf}
 use Rattle.vision_gate.specs.Vision.{active}
 use Rattle.tracking.specs.Recovery.{isRecovering}
-use Rattle.body_controller.specs.declared.controller.BodyController.{BodyController}
-use Rattle.body_controller.specs.declared.controller.NewAnswer.{NewAnswer}
-use Rattle.body_controller.specs.declared.controller.NewAnswer.the-variants as New
-use Rattle.body_controller.specs.declared.counts.Counts.{Counts}
-use Rattle.body_controller.specs.declared.finish.FinishInput.{FinishInput}
-use Rattle.body_controller.specs.declared.finish.FinishAnswer.{FinishAnswer}
-use Rattle.body_controller.specs.declared.finish.FinishAnswer.the-variants as Finishes
-use Rattle.body_controller.specs.declared.plan.PlanCallAnswer.{PlanCallAnswer}
-use Rattle.body_controller.specs.declared.plan.PlanCallAnswer.the-variants as Plans
-use Rattle.body_controller.specs.declared.sight.SightAnswer.{SightAnswer}
-use Rattle.body_controller.specs.declared.sight.SightAnswer.the-variants as Sights
-use Rattle.body_controller.specs.declared.steer.SteerInput.{SteerInput}
-use Rattle.body_controller.specs.declared.steer.SteerAnswer.{SteerAnswer}
-use Rattle.body_controller.specs.declared.steer.SteerAnswer.the-variants as Steers
+use Rattle.body_controller.specs.declared.BodyController.{BodyController}
+use Rattle.body_controller.specs.declared.NewAnswer.{NewAnswer}
+use Rattle.body_controller.specs.declared.NewAnswer.the-variants as New
+use Rattle.body_controller.specs.declared.Counts.{Counts}
+use Rattle.body_controller.specs.declared.FinishInput.{FinishInput}
+use Rattle.body_controller.specs.declared.FinishAnswer.{FinishAnswer}
+use Rattle.body_controller.specs.declared.FinishAnswer.the-variants as Finishes
+use Rattle.body_controller.specs.declared.PlanCallAnswer.{PlanCallAnswer}
+use Rattle.body_controller.specs.declared.PlanCallAnswer.the-variants as Plans
+use Rattle.body_controller.specs.declared.SightAnswer.{SightAnswer}
+use Rattle.body_controller.specs.declared.SightAnswer.the-variants as Sights
+use Rattle.body_controller.specs.declared.SteerInput.{SteerInput}
+use Rattle.body_controller.specs.declared.SteerAnswer.{SteerAnswer}
+use Rattle.body_controller.specs.declared.SteerAnswer.the-variants as Steers
 use Rattle.body_controller.specs.Refusal.{refusalNumber}
 use Rattle.body_controller.specs.Counts.{noCounts}
 use Rattle.body_controller.specs.Controller.{newOf}

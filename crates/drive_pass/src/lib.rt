@@ -1,16 +1,16 @@
 // A pass, a term of document 01: blocks driven one after the other, each with its line.
 ghost use mathlib.Core.Path.{_≡_};
 ghost use Rattle.drive_pass.specs.Pass.{nextNumber, countsOf, refusedBy, endedBy, finished, steered, planned, ticked, first, wentOn, taken, driven};
-use body_controller::controller::BodyController;
-use body_controller::controller::NewAnswer;
-use body_controller::counts::Counts;
-use body_controller::finish::FinishAnswer;
-use body_controller::finish::FinishInput;
-use body_controller::plan::PlanCallAnswer;
-use body_controller::plan::PlanInput;
-use body_controller::sight::SightAnswer;
-use body_controller::steer::SteerAnswer;
-use body_controller::steer::SteerInput;
+use body_controller::BodyController;
+use body_controller::Counts;
+use body_controller::FinishAnswer;
+use body_controller::FinishInput;
+use body_controller::NewAnswer;
+use body_controller::PlanCallAnswer;
+use body_controller::PlanInput;
+use body_controller::SightAnswer;
+use body_controller::SteerAnswer;
+use body_controller::SteerInput;
 use line_text::Ending;
 use line_text::Line;
 use line_text::RefusedLine;

@@ -1,7 +1,7 @@
 -- The lag as a whole: a reset leaves a new lag's state, and an inversion of no steps answers what was desired. Assumes nothing.
 use mathlib.Core.Path.{_≡_, refl}
 use Prim.Native.Nat.{ℕ}
-use Rattle.linear.specs.declared.vector.Vector2f.{Vector2f}
+use Rattle.linear.specs.declared.Vector2f.{Vector2f}
 use Rattle.first_order_lag.specs.declared.FirstOrderLag.{FirstOrderLag}
 use Rattle.first_order_lag.specs.Axis.{iterated, axisInvert}
 use Rattle.first_order_lag.specs.FirstOrderLag.{newLag, xAxis, yAxis, resetOf, steppedOf, invertedOf}

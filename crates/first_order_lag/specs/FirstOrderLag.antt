@@ -5,7 +5,7 @@ use mathlib.Core.Bool.{true, false, cond}
 use lib.IntN.{pos}
 use lib.Dec.{T}
 use lib.Ieee.{Float, fin, binary32, ofInt, ofBits, toUnsigned, add, mul, div, lt}
-use Rattle.linear.specs.declared.vector.Vector2f.{Vector2f}
+use Rattle.linear.specs.declared.Vector2f.{Vector2f}
 use Rattle.linear.specs.Vector.{zeros2}
 use Rattle.controller_params.specs.Params.{encLagK, encLagTSlope, encLagTHorizon, tMinDefault}
 use Rattle.tick_length.specs.TickLength.{isTickLength, microsOf}

@@ -9,7 +9,7 @@ use controller_params::ENC_LAG_K;
 use controller_params::ENC_LAG_T_HORIZON;
 use controller_params::ENC_LAG_T_SLOPE;
 use controller_params::T_MIN_DEFAULT;
-use linear::vector::Vector2f;
+use linear::Vector2f;
 use tick_length::TickLength;
 use tick_length::TickLengthAnswer;
 

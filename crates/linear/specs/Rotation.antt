@@ -1,7 +1,7 @@
 -- Rotation by a given cosine and sine, document 01, 'Stand-ins'. Assumes nothing.
 use lib.Ieee.{Float, binary32, neg, ofBits}
-use Rattle.linear.specs.declared.vector.Vector3f.{Vector3f}
-use Rattle.linear.specs.declared.matrix.Matrix3.{Matrix3}
+use Rattle.linear.specs.declared.Vector3f.{Vector3f}
+use Rattle.linear.specs.declared.Matrix3.{Matrix3}
 use Rattle.linear.specs.Vector.{zeroFloat}
 use Rattle.linear.specs.Matrix.{productOf3}
 

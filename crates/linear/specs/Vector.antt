@@ -1,10 +1,10 @@
 -- Sums, differences, multiples and dot products of vectors, every step rounded to binary32. Assumes nothing.
 use mathlib.Core.List.{List, [], _∷_}
 use lib.Ieee.{Float, binary32, add, sub, mul, ofBits}
-use Rattle.linear.specs.declared.vector.Vector2f.{Vector2f}
-use Rattle.linear.specs.declared.vector.Vector3f.{Vector3f}
-use Rattle.linear.specs.declared.vector.Vector4f.{Vector4f}
-use Rattle.linear.specs.declared.vector.Vector6f.{Vector6f}
+use Rattle.linear.specs.declared.Vector2f.{Vector2f}
+use Rattle.linear.specs.declared.Vector3f.{Vector3f}
+use Rattle.linear.specs.declared.Vector4f.{Vector4f}
+use Rattle.linear.specs.declared.Vector6f.{Vector6f}
 
 -- ---- zeros
 

@@ -2,27 +2,11 @@
 // starting with the first one, zeros included.
 ghost use mathlib.Core.Path.{_≡_};
 ghost use Rattle.linear.specs.Matrix.{productOf3, productOf3x4, productOf4x3};
-use crate::vector::Vector3f;
-use crate::vector::Vector4f;
-
-pub struct Matrix3 {
-    pub r0: Vector3f,
-    pub r1: Vector3f,
-    pub r2: Vector3f,
-}
-
-pub struct Matrix3x4 {
-    pub r0: Vector4f,
-    pub r1: Vector4f,
-    pub r2: Vector4f,
-}
-
-pub struct Matrix4x3 {
-    pub r0: Vector3f,
-    pub r1: Vector3f,
-    pub r2: Vector3f,
-    pub r3: Vector3f,
-}
+use crate::Matrix3;
+use crate::Matrix3x4;
+use crate::Matrix4x3;
+use crate::Vector3f;
+use crate::Vector4f;
 
 impl Matrix3 {
     pub fn mul(self, v: Vector3f) -> Vector3f

@@ -1,8 +1,8 @@
 // Rotation about the vertical, by a given cosine and sine.
 ghost use mathlib.Core.Path.{_≡_};
 ghost use Rattle.linear.specs.Rotation.{rotation, toGlobal, toLocal};
-use crate::matrix::Matrix3;
-use crate::vector::Vector3f;
+use crate::Matrix3;
+use crate::Vector3f;
 
 // `z_rotation_mat` of the angle with this cosine and sine.
 fn z_rotation_mat(c: f32, s: f32) -> Matrix3

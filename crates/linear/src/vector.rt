@@ -1,30 +1,10 @@
 // Vectors of floats.
 ghost use mathlib.Core.Path.{_≡_};
 ghost use Rattle.linear.specs.Vector.{zeros2, zeros3, zeros4, zeros6, entries3, entries4, sumOf, differenceOf, scaled, dotOf};
-
-pub struct Vector2f {
-    pub x: f32,
-    pub y: f32,
-}
-
-pub struct Vector3f {
-    pub x: f32,
-    pub y: f32,
-    pub z: f32,
-}
-
-pub struct Vector4f {
-    pub x: f32,
-    pub y: f32,
-    pub z: f32,
-    pub w: f32,
-}
-
-// Document 01's six of state: x, y and heading, and their velocities.
-pub struct Vector6f {
-    pub pose: Vector3f,
-    pub twist: Vector3f,
-}
+use crate::Vector2f;
+use crate::Vector3f;
+use crate::Vector4f;
+use crate::Vector6f;
 
 impl Vector2f {
     pub fn zeros() -> Self

@@ -4,13 +4,13 @@ use mathlib.Core.Bool.{Bool, true, false, cond, _&&_}
 use mathlib.Core.List.{List, [], _∷_}
 use lib.Dec.{eqb, ltb}
 use lib.Ieee.{Float, eq}
-use Rattle.maneuvers.specs.declared.command.GlobalPosition.{GlobalPosition}
-use Rattle.maneuvers.specs.declared.command.HeadingLine.{HeadingLine}
-use Rattle.maneuvers.specs.declared.command.ManeuverCommand.{ManeuverCommand}
-use Rattle.maneuvers.specs.declared.command.ManeuverCommand.the-variants as Cmd
-use Rattle.maneuvers.specs.declared.command.CommandWords.{CommandWords}
-use Rattle.maneuvers.specs.declared.command.CommandAnswer.{CommandAnswer}
-use Rattle.maneuvers.specs.declared.command.CommandAnswer.the-variants.{Given, Refused}
+use Rattle.maneuvers.specs.declared.GlobalPosition.{GlobalPosition}
+use Rattle.maneuvers.specs.declared.HeadingLine.{HeadingLine}
+use Rattle.maneuvers.specs.declared.ManeuverCommand.{ManeuverCommand}
+use Rattle.maneuvers.specs.declared.ManeuverCommand.the-variants as Cmd
+use Rattle.maneuvers.specs.declared.CommandWords.{CommandWords}
+use Rattle.maneuvers.specs.declared.CommandAnswer.{CommandAnswer}
+use Rattle.maneuvers.specs.declared.CommandAnswer.the-variants.{Given, Refused}
 
 -- ---- modes
 

@@ -1,11 +1,11 @@
 -- Document 01, 'The tick's four calls', Plan: the held sample and the previous command, and what is dropped of them and when. Assumes nothing.
 use mathlib.Core.Bool.{Bool, true, not}
-use Rattle.maneuvers.specs.declared.command.ManeuverCommand.{ManeuverCommand}
-use Rattle.maneuvers.specs.declared.memory.Sample.{Sample}
-use Rattle.maneuvers.specs.declared.memory.HeldSample.the-variants as HeldSample
-use Rattle.maneuvers.specs.declared.memory.PrevCommand.{PrevCommand}
-use Rattle.maneuvers.specs.declared.memory.PrevCommand.the-variants as Prev
-use Rattle.maneuvers.specs.declared.memory.Memory.{Memory}
+use Rattle.maneuvers.specs.declared.ManeuverCommand.{ManeuverCommand}
+use Rattle.maneuvers.specs.declared.Sample.{Sample}
+use Rattle.maneuvers.specs.declared.HeldSample.the-variants as HeldSample
+use Rattle.maneuvers.specs.declared.PrevCommand.{PrevCommand}
+use Rattle.maneuvers.specs.declared.PrevCommand.the-variants as Prev
+use Rattle.maneuvers.specs.declared.Memory.{Memory}
 use Rattle.maneuvers.specs.Command.{equal}
 
 -- trajectory and previous command dropped

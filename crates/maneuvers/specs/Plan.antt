@@ -2,14 +2,14 @@
 use Prim.Native.Nat.{ℕ}
 use mathlib.Core.Bool.{Bool, true, false, cond, not, _||_}
 use lib.Dec.{eqb, ltb}
-use Rattle.linear.specs.declared.vector.Vector6f.{Vector6f}
-use Rattle.maneuvers.specs.declared.command.ManeuverCommand.{ManeuverCommand}
-use Rattle.maneuvers.specs.declared.memory.HeldSample.{HeldSample}
-use Rattle.maneuvers.specs.declared.memory.HeldSample.the-variants.{Absent, Held}
-use Rattle.maneuvers.specs.declared.memory.Memory.{Memory}
-use Rattle.maneuvers.specs.declared.plan.PlanAnswer.{PlanAnswer}
-use Rattle.maneuvers.specs.declared.plan.PlanAnswer.the-variants.{Hold, NoVision, Keep, NewPlan}
-use Rattle.maneuvers.specs.declared.plan.Decision.{Decision}
+use Rattle.linear.specs.declared.Vector6f.{Vector6f}
+use Rattle.maneuvers.specs.declared.ManeuverCommand.{ManeuverCommand}
+use Rattle.maneuvers.specs.declared.HeldSample.{HeldSample}
+use Rattle.maneuvers.specs.declared.HeldSample.the-variants.{Absent, Held}
+use Rattle.maneuvers.specs.declared.Memory.{Memory}
+use Rattle.maneuvers.specs.declared.PlanAnswer.{PlanAnswer}
+use Rattle.maneuvers.specs.declared.PlanAnswer.the-variants.{Hold, NoVision, Keep, NewPlan}
+use Rattle.maneuvers.specs.declared.Decision.{Decision}
 use Rattle.maneuvers.specs.Command.{isMode}
 use Rattle.maneuvers.specs.Memory.{emptyMemory, commandChanged}
 

@@ -1,61 +1,12 @@
 // Commands: made from a mode number and a block's words, and compared.
 ghost use mathlib.Core.Path.{_≡_};
 ghost use Rattle.maneuvers.specs.Command.{isMode, positionFrom, lineFrom, commandFrom, refusalNumber, refusalOf, positionFields, lineFields, fieldsEqual, equal};
-use linear::vector::Vector3f;
-
-pub struct GlobalPosition {
-    pub target_pose: Vector3f,
-    pub max_linear_vel: f32,
-    pub max_angular_vel: f32,
-    pub max_linear_acc: f32,
-    pub max_angular_acc: f32,
-}
-
-pub struct HeadingLine {
-    pub global_theta: f32,
-    pub start_x: f32,
-    pub start_y: f32,
-    pub dir_x: f32,
-    pub dir_y: f32,
-    pub line_velocity: f32,
-    pub max_vel_colinear: f32,
-    pub max_vel_perp: f32,
-    pub max_vel_angular: f32,
-    pub max_accel_colinear: f32,
-    pub max_accel_perp: f32,
-    pub max_accel_angular: f32,
-    pub colinear_start_thresh: f32,
-}
-
-pub enum ManeuverCommand {
-    Off,
-    Brake,
-    GlobalPosition(GlobalPosition),
-    HeadingLine(HeadingLine),
-}
-
-// A block's command words, 24-36, as floats.
-pub struct CommandWords {
-    pub w0: f32,
-    pub w1: f32,
-    pub w2: f32,
-    pub w3: f32,
-    pub w4: f32,
-    pub w5: f32,
-    pub w6: f32,
-    pub w7: f32,
-    pub w8: f32,
-    pub w9: f32,
-    pub w10: f32,
-    pub w11: f32,
-    pub w12: f32,
-}
-
-// A command, or document 01's refusal 4: the mode is not from 0 to 3.
-pub enum CommandAnswer {
-    Given(ManeuverCommand),
-    Refused,
-}
+use crate::CommandAnswer;
+use crate::CommandWords;
+use crate::GlobalPosition;
+use crate::HeadingLine;
+use crate::ManeuverCommand;
+use linear::Vector3f;
 
 pub fn is_mode(mode: u32) -> bool
     ensures { λ r. ⌜ r ≡ isMode mode ⌝ }

@@ -1,25 +1,12 @@
 // Plan's answer, and what plan leaves to the next tick.
 ghost use mathlib.Core.Path.{_≡_};
 ghost use Rattle.maneuvers.specs.Plan.{hold, inMode, maneuverAnswer, decided, answerNumber, numberDecided};
-use crate::command::ManeuverCommand;
-use crate::memory::HeldSample;
-use crate::memory::Memory;
-use linear::vector::Vector6f;
-
-// Plan's four answers, terms of document 01. A new plan has its seed.
-pub enum PlanAnswer {
-    Hold,
-    NoVision,
-    Keep,
-    NewPlan(Vector6f),
-}
-
-// An answer, beside the memory and the previous mode that plan leaves.
-pub struct Decision {
-    pub answer: PlanAnswer,
-    pub memory: Memory,
-    pub prev_mode: u32,
-}
+use crate::Decision;
+use crate::HeldSample;
+use crate::ManeuverCommand;
+use crate::Memory;
+use crate::PlanAnswer;
+use linear::Vector6f;
 
 fn hold() -> Decision
     ensures { λ r. ⌜ r ≡ hold ⌝ }

@@ -4,7 +4,7 @@ use Prim.Native.Nat.{ℕ, zero, suc, _<_}
 use native.Mathlib.Nat.{le-of-suc-le-suc, not-suc-le-zero, lt-of-lt-of-le, le-of-eq}
 use mathlib.Core.List.{List, [], _∷_, map}
 use lib.ListN.{getD, length}
-use Rattle.pid.specs.declared.axis.PidController.{PidController}
+use Rattle.pid.specs.declared.PidController.{PidController}
 use Rattle.pid.specs.Axes.{Ask, answers, Call, reset, after, afterCall, afterCalls, Each}
 use Rattle.pid.proofs.AxisLaws.{Bounded, after-bounded, Ordered, Inside, answer-inside}
 

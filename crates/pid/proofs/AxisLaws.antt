@@ -5,10 +5,10 @@ use lib.Dec.{T}
 use lib.Ieee.{Float, nan, binary32, mul, div, lt, le}
 use Rattle.ieee754.specs.Magnitude.{magnitude}
 use Rattle.ieee754.proofs.clamp.Laws.{clamp-nan, clamp-between}
-use Rattle.pid.specs.declared.axis.PidController.{PidController}
-use Rattle.pid.specs.declared.axis.AntiJitterThresh.the-variants.{Below}
-use Rattle.pid.specs.declared.axis.OutputLimits.{OutputLimits}
-use Rattle.pid.specs.declared.axis.OutputLimits.the-variants.{Absent, Between}
+use Rattle.pid.specs.declared.PidController.{PidController}
+use Rattle.pid.specs.declared.AntiJitterThresh.the-variants.{Below}
+use Rattle.pid.specs.declared.OutputLimits.{OutputLimits}
+use Rattle.pid.specs.declared.OutputLimits.the-variants.{Absent, Between}
 use Rattle.pid.specs.Axis.{zero, antiJitter, limited, integrated, response, calculated, calculatedWithDerivative, newController, resetOf}
 use Rattle.pid.specs.Axes.{Ask, answer, calculate, calculateWithDerivative, Call, ask, reset, after}
 

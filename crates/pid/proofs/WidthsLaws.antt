@@ -2,11 +2,11 @@
 use mathlib.Core.Path.{_≡_, refl}
 use mathlib.Core.List.{map}
 use lib.Ieee.{Float}
-use Rattle.linear.specs.declared.vector.Vector3f.{Vector3f}
-use Rattle.linear.specs.declared.vector.Vector4f.{Vector4f}
+use Rattle.linear.specs.declared.Vector3f.{Vector3f}
+use Rattle.linear.specs.declared.Vector4f.{Vector4f}
 use Rattle.linear.specs.Vector.{entries3, entries4}
-use Rattle.pid.specs.declared.axes.PidController3.{PidController3}
-use Rattle.pid.specs.declared.axes.PidController4.{PidController4}
+use Rattle.pid.specs.declared.PidController3.{PidController3}
+use Rattle.pid.specs.declared.PidController4.{PidController4}
 use Rattle.pid.specs.Axis.{resetOf}
 use Rattle.pid.specs.Axes.{asks, asksWithDerivative, answers}
 use Rattle.pid.specs.Widths.{joined3, joined4, calculated3, calculated4, calculatedWithDerivative3, calculatedWithDerivative4, reset3, reset4, axes3, axes4, answers3, answers4}

@@ -1,8 +1,8 @@
 -- pid.rs for any number of axes: a list with a controller for each axis, and of every vector an entry for each axis. Assumes nothing.
 use mathlib.Core.List.{List, [], _∷_}
 use lib.Ieee.{Float}
-use Rattle.pid.specs.declared.axis.PidController.{PidController}
-use Rattle.pid.specs.declared.axis.PidAnswer.{PidAnswer}
+use Rattle.pid.specs.declared.PidController.{PidController}
+use Rattle.pid.specs.declared.PidAnswer.{PidAnswer}
 use Rattle.pid.specs.Axis.{calculated, calculatedWithDerivative, resetOf}
 
 -- what one axis is asked: setpoint, process variable, derivative, dt

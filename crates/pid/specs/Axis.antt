@@ -5,12 +5,12 @@ use lib.Ieee.{Float, binary32, ofBits, add, sub, mul, div, lt}
 use Rattle.ieee754.specs.Magnitude.{magnitude}
 use Rattle.ieee754.specs.Clamp.{clampBetween}
 use Rattle.controller_params.specs.declared.PidGains.{PidGains}
-use Rattle.pid.specs.declared.axis.AntiJitterThresh.{AntiJitterThresh}
-use Rattle.pid.specs.declared.axis.AntiJitterThresh.the-variants as Thresh
-use Rattle.pid.specs.declared.axis.OutputLimits.{OutputLimits}
-use Rattle.pid.specs.declared.axis.OutputLimits.the-variants as Limits
-use Rattle.pid.specs.declared.axis.PidController.{PidController}
-use Rattle.pid.specs.declared.axis.PidAnswer.{PidAnswer}
+use Rattle.pid.specs.declared.AntiJitterThresh.{AntiJitterThresh}
+use Rattle.pid.specs.declared.AntiJitterThresh.the-variants as Thresh
+use Rattle.pid.specs.declared.OutputLimits.{OutputLimits}
+use Rattle.pid.specs.declared.OutputLimits.the-variants as Limits
+use Rattle.pid.specs.declared.PidController.{PidController}
+use Rattle.pid.specs.declared.PidAnswer.{PidAnswer}
 
 -- 0.0
 abbrev pub zero : Float

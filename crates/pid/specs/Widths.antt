@@ -1,14 +1,14 @@
 -- The controllers of three and four axes: each axis answers its own entries. That this is the list of `Axes.antt` at lengths three and four is a law. Assumes nothing.
 use mathlib.Core.List.{List, [], _∷_}
 use lib.Ieee.{Float}
-use Rattle.linear.specs.declared.vector.Vector3f.{Vector3f}
-use Rattle.linear.specs.declared.vector.Vector4f.{Vector4f}
-use Rattle.pid.specs.declared.axis.PidController.{PidController}
-use Rattle.pid.specs.declared.axis.PidAnswer.{PidAnswer}
-use Rattle.pid.specs.declared.axes.PidController3.{PidController3}
-use Rattle.pid.specs.declared.axes.PidController4.{PidController4}
-use Rattle.pid.specs.declared.axes.PidAnswer3.{PidAnswer3}
-use Rattle.pid.specs.declared.axes.PidAnswer4.{PidAnswer4}
+use Rattle.linear.specs.declared.Vector3f.{Vector3f}
+use Rattle.linear.specs.declared.Vector4f.{Vector4f}
+use Rattle.pid.specs.declared.PidController.{PidController}
+use Rattle.pid.specs.declared.PidAnswer.{PidAnswer}
+use Rattle.pid.specs.declared.PidController3.{PidController3}
+use Rattle.pid.specs.declared.PidController4.{PidController4}
+use Rattle.pid.specs.declared.PidAnswer3.{PidAnswer3}
+use Rattle.pid.specs.declared.PidAnswer4.{PidAnswer4}
 use Rattle.pid.specs.Axis.{calculated, calculatedWithDerivative, resetOf}
 
 -- the axes' answers, as one

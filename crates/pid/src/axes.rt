@@ -1,34 +1,13 @@
 // `PidController<3>` and `PidController<4>`: an axis for each entry of a vector.
 ghost use mathlib.Core.Path.{_≡_};
 ghost use Rattle.pid.specs.Widths.{joined3, joined4, calculated3, calculated4, calculatedWithDerivative3, calculatedWithDerivative4, reset3, reset4};
-use crate::axis::PidAnswer;
-use crate::axis::PidController;
-use linear::vector::Vector3f;
-use linear::vector::Vector4f;
-
-pub struct PidController3 {
-    pub x: PidController,
-    pub y: PidController,
-    pub z: PidController,
-}
-
-pub struct PidController4 {
-    pub x: PidController,
-    pub y: PidController,
-    pub z: PidController,
-    pub w: PidController,
-}
-
-// What a call answers, beside the controller as the call leaves it.
-pub struct PidAnswer3 {
-    pub output: Vector3f,
-    pub controller: PidController3,
-}
-
-pub struct PidAnswer4 {
-    pub output: Vector4f,
-    pub controller: PidController4,
-}
+use crate::PidAnswer;
+use crate::PidAnswer3;
+use crate::PidAnswer4;
+use crate::PidController3;
+use crate::PidController4;
+use linear::Vector3f;
+use linear::Vector4f;
 
 fn joined3(x: PidAnswer, y: PidAnswer, z: PidAnswer) -> PidAnswer3
     ensures { λ r. ⌜ r ≡ joined3 x y z ⌝ }

@@ -1,35 +1,13 @@
 // One axis of `PidController`.
 ghost use mathlib.Core.Path.{_≡_};
 ghost use Rattle.pid.specs.Axis.{antiJitter, limited, response, calculated, calculatedWithDerivative, resetOf, newController};
+use crate::AntiJitterThresh;
+use crate::OutputLimits;
+use crate::PidAnswer;
+use crate::PidController;
 use controller_params::PidGains;
 use ieee754::bits::abs;
 use ieee754::clamp::clamp;
-
-// The error below which the output is scaled toward zero, if there is one.
-pub enum AntiJitterThresh {
-    Absent,
-    Below(f32),
-}
-
-// The bounds of the output, if there are any.
-pub enum OutputLimits {
-    Absent,
-    Between(f32, f32),
-}
-
-pub struct PidController {
-    pub gain: PidGains,
-    pub anti_jitter_thresh: AntiJitterThresh,
-    pub output_limits: OutputLimits,
-    pub prev_error: f32,
-    pub integrated_error: f32,
-}
-
-// What a call answers, beside the controller as the call leaves it.
-pub struct PidAnswer {
-    pub output: f32,
-    pub controller: PidController,
-}
 
 // Below the threshold the output shrinks with the error.
 fn apply_anti_jitter(thresh: AntiJitterThresh, out: f32, err: f32) -> f32

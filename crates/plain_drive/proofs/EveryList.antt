@@ -12,20 +12,20 @@ use lib.IntN.{pos}
 use lib.Ieee.{Float, binary32, le, ofInt}
 use Rattle.tick_length.specs.declared.TickLengthAnswer.the-variants as Length
 use Rattle.tick_length.specs.TickLength.{isTickLength, tickLengthOf, secondsOf}
-use Rattle.vision_gate.specs.declared.gate.VisionGateState.{VisionGateState}
-use Rattle.vision_gate.specs.declared.gate.VisionGateState.the-variants.{Seeding, Tracking}
+use Rattle.vision_gate.specs.declared.VisionGateState.{VisionGateState}
+use Rattle.vision_gate.specs.declared.VisionGateState.the-variants.{Seeding, Tracking}
 use Rattle.vision_gate.specs.Outcome.{takes}
 use Rattle.vision_gate.specs.Gate.{distance}
 use Rattle.vision_gate.specs.Vision.{active, newVision}
 use Rattle.maneuvers.specs.Memory.{emptyMemory}
 use Rattle.vision_gate.proofs.Outcomes.{Small}
 use Rattle.vision_gate.proofs.Held.{Held, held-active, unheld-inactive, held-widens}
-use Rattle.body_controller.specs.declared.controller.BodyController.{BodyController}
-use Rattle.body_controller.specs.declared.controller.Choices.{Choices}
-use Rattle.body_controller.specs.declared.controller.NewAnswer.the-variants as New
-use Rattle.body_controller.specs.declared.sight.SightInput.{SightInput}
-use Rattle.body_controller.specs.declared.sight.SightResult.{SightResult}
-use Rattle.body_controller.specs.declared.refusal.Refusal.the-variants.{OutOfTurn, TickLimit}
+use Rattle.body_controller.specs.declared.BodyController.{BodyController}
+use Rattle.body_controller.specs.declared.Choices.{Choices}
+use Rattle.body_controller.specs.declared.NewAnswer.the-variants as New
+use Rattle.body_controller.specs.declared.SightInput.{SightInput}
+use Rattle.body_controller.specs.declared.SightResult.{SightResult}
+use Rattle.body_controller.specs.declared.Refusal.the-variants.{OutOfTurn, TickLimit}
 use Rattle.body_controller.specs.Turn.{isSight}
 use Rattle.body_controller.specs.Counts.{noCounts, countList}
 use Rattle.body_controller.specs.Controller.{started, madeFrom, newOf, newNumber}

@@ -7,25 +7,25 @@ use mathlib.Core.Bool.{Bool, true, false, cond, not, _&&_, _||_, and-not-self}
 use borrow.Author.Tests.{ltb-true}
 use lib.Dec.{ltb}
 use lib.Ieee.{Float}
-use Rattle.linear.specs.declared.vector.Vector4f.{Vector4f}
-use Rattle.linear.specs.declared.vector.Vector6f.{Vector6f}
+use Rattle.linear.specs.declared.Vector4f.{Vector4f}
+use Rattle.linear.specs.declared.Vector6f.{Vector6f}
 use Rattle.controller_params.specs.Params.{visionClockStartS}
-use Rattle.vision_gate.specs.declared.gate.VisionGateState.the-variants.{Seeding}
+use Rattle.vision_gate.specs.declared.VisionGateState.the-variants.{Seeding}
 use Rattle.vision_gate.specs.Gate.{freshSeeding}
-use Rattle.maneuvers.specs.declared.command.ManeuverCommand.{ManeuverCommand}
-use Rattle.maneuvers.specs.declared.command.CommandAnswer.{CommandAnswer}
-use Rattle.maneuvers.specs.declared.command.CommandAnswer.the-variants as Command
-use Rattle.maneuvers.specs.declared.plan.PlanAnswer.{PlanAnswer}
+use Rattle.maneuvers.specs.declared.ManeuverCommand.{ManeuverCommand}
+use Rattle.maneuvers.specs.declared.CommandAnswer.{CommandAnswer}
+use Rattle.maneuvers.specs.declared.CommandAnswer.the-variants as Command
+use Rattle.maneuvers.specs.declared.PlanAnswer.{PlanAnswer}
 use Rattle.maneuvers.specs.Command.{commandFrom}
-use Rattle.tracking.specs.declared.recovery.TrackingDivergenceState.{TrackingDivergenceState}
-use Rattle.tracking.specs.declared.recovery.TrackingDivergenceState.the-variants.{Normal, Recovering}
-use Rattle.tracking.specs.declared.recovery.HeldState.{HeldState}
-use Rattle.tracking.specs.declared.recovery.RecoveryAnswer.{RecoveryAnswer}
+use Rattle.tracking.specs.declared.TrackingDivergenceState.{TrackingDivergenceState}
+use Rattle.tracking.specs.declared.TrackingDivergenceState.the-variants.{Normal, Recovering}
+use Rattle.tracking.specs.declared.HeldState.{HeldState}
+use Rattle.tracking.specs.declared.RecoveryAnswer.{RecoveryAnswer}
 use Rattle.tracking.specs.Recovery.{isRecovering, trackingErrorExceeded, atRest, recovery}
-use Rattle.body_controller.specs.declared.sight.SightInput.{SightInput}
-use Rattle.body_controller.specs.declared.plan.PlanInput.{PlanInput}
-use Rattle.body_controller.specs.declared.steer.SteerInput.{SteerInput}
-use Rattle.body_controller.specs.declared.finish.FinishInput.{FinishInput}
+use Rattle.body_controller.specs.declared.SightInput.{SightInput}
+use Rattle.body_controller.specs.declared.PlanInput.{PlanInput}
+use Rattle.body_controller.specs.declared.SteerInput.{SteerInput}
+use Rattle.body_controller.specs.declared.FinishInput.{FinishInput}
 use Rattle.plain_drive.specs.Calls.{Call, sight, plan, steer, finish, reset, accepted, refused, isTick, took, isReset}
 use Rattle.plain_drive.specs.PlainDrive.{DriveTurn, toSight, toPlan, toSteer, toFinish, DriveState, Step, turnedAway, seen, onSight, decidedOn, closed, onCommand, onPlan, onReset, cleared, anew, unplanned, followed, judgedState, turnedTo, steeredBy, onSteer, onFinish, step}
 

@@ -6,33 +6,33 @@ use native.Mathlib.Omega.{arith}
 use mathlib.Core.Bool.{Bool, true, false, cond}
 use lib.Dec.{ltb}
 use lib.Ieee.{Float}
-use Rattle.linear.specs.declared.vector.Vector4f.{Vector4f}
+use Rattle.linear.specs.declared.Vector4f.{Vector4f}
 use Rattle.tick_length.specs.TickLength.{secondsOf}
-use Rattle.vision_gate.specs.declared.gate.GateAction.{GateAction}
-use Rattle.vision_gate.specs.declared.gate.GateAction.the-variants.{NoVision, Accumulate, SeedComplete, SeedReset, Accept, AcceptJump, FirstReject, Reject}
+use Rattle.vision_gate.specs.declared.GateAction.{GateAction}
+use Rattle.vision_gate.specs.declared.GateAction.the-variants.{NoVision, Accumulate, SeedComplete, SeedReset, Accept, AcceptJump, FirstReject, Reject}
 use Rattle.vision_gate.specs.Outcome.{overwrites, numberOf}
 use Rattle.vision_gate.specs.Vision.{newVision, visionAfter}
-use Rattle.maneuvers.specs.declared.command.CommandAnswer.{CommandAnswer}
-use Rattle.maneuvers.specs.declared.command.CommandAnswer.the-variants as Command
-use Rattle.maneuvers.specs.declared.memory.Memory.{Memory}
-use Rattle.maneuvers.specs.declared.memory.HeldSample.the-variants as Samples
-use Rattle.maneuvers.specs.declared.memory.PrevCommand.the-variants as Prev
-use Rattle.maneuvers.specs.declared.plan.PlanAnswer.{PlanAnswer}
-use Rattle.maneuvers.specs.declared.plan.PlanAnswer.the-variants as Answers
+use Rattle.maneuvers.specs.declared.CommandAnswer.{CommandAnswer}
+use Rattle.maneuvers.specs.declared.CommandAnswer.the-variants as Command
+use Rattle.maneuvers.specs.declared.Memory.{Memory}
+use Rattle.maneuvers.specs.declared.HeldSample.the-variants as Samples
+use Rattle.maneuvers.specs.declared.PrevCommand.the-variants as Prev
+use Rattle.maneuvers.specs.declared.PlanAnswer.{PlanAnswer}
+use Rattle.maneuvers.specs.declared.PlanAnswer.the-variants as Answers
 use Rattle.maneuvers.specs.Command.{commandFrom}
 use Rattle.maneuvers.specs.Memory.{emptyMemory, trajectoryDropped, afterTracking}
 use Rattle.tracking.specs.Recovery.{recovery}
-use Rattle.body_controller.specs.declared.controller.BodyController.{BodyController}
-use Rattle.body_controller.specs.declared.counts.Counts.{Counts}
-use Rattle.body_controller.specs.declared.sight.SightInput.{SightInput}
-use Rattle.body_controller.specs.declared.plan.PlanInput.{PlanInput}
-use Rattle.body_controller.specs.declared.steer.SteerInput.{SteerInput}
-use Rattle.body_controller.specs.declared.steer.Setpoints.{Setpoints}
-use Rattle.body_controller.specs.declared.finish.FinishInput.{FinishInput}
-use Rattle.body_controller.specs.declared.turn.Planned.{Planned}
-use Rattle.body_controller.specs.declared.turn.Steered.{Steered}
-use Rattle.body_controller.specs.declared.turn.Turn.{Turn}
-use Rattle.body_controller.specs.declared.turn.Turn.the-variants as Turns
+use Rattle.body_controller.specs.declared.BodyController.{BodyController}
+use Rattle.body_controller.specs.declared.Counts.{Counts}
+use Rattle.body_controller.specs.declared.SightInput.{SightInput}
+use Rattle.body_controller.specs.declared.PlanInput.{PlanInput}
+use Rattle.body_controller.specs.declared.SteerInput.{SteerInput}
+use Rattle.body_controller.specs.declared.Setpoints.{Setpoints}
+use Rattle.body_controller.specs.declared.FinishInput.{FinishInput}
+use Rattle.body_controller.specs.declared.Planned.{Planned}
+use Rattle.body_controller.specs.declared.Steered.{Steered}
+use Rattle.body_controller.specs.declared.Turn.{Turn}
+use Rattle.body_controller.specs.declared.Turn.the-variants as Turns
 use Rattle.body_controller.specs.Counts.{counted, countList}
 use Rattle.body_controller.specs.Controller.{inTurn}
 use Rattle.body_controller.specs.Reset.{contextReset, resetOf}

@@ -1,13 +1,13 @@
 -- The five calls and what is compared of their answers: document 01, 'The tick's four calls' and 'The plain drive'. Assumes nothing.
 use Prim.Native.Nat.{ℕ}
 use mathlib.Core.Bool.{Bool, true, false}
-use Rattle.vision_gate.specs.declared.gate.GateAction.{GateAction}
+use Rattle.vision_gate.specs.declared.GateAction.{GateAction}
 use Rattle.vision_gate.specs.Outcome.{takes}
-use Rattle.maneuvers.specs.declared.plan.PlanAnswer.{PlanAnswer}
-use Rattle.body_controller.specs.declared.sight.SightInput.{SightInput}
-use Rattle.body_controller.specs.declared.plan.PlanInput.{PlanInput}
-use Rattle.body_controller.specs.declared.steer.SteerInput.{SteerInput}
-use Rattle.body_controller.specs.declared.finish.FinishInput.{FinishInput}
+use Rattle.maneuvers.specs.declared.PlanAnswer.{PlanAnswer}
+use Rattle.body_controller.specs.declared.SightInput.{SightInput}
+use Rattle.body_controller.specs.declared.PlanInput.{PlanInput}
+use Rattle.body_controller.specs.declared.SteerInput.{SteerInput}
+use Rattle.body_controller.specs.declared.FinishInput.{FinishInput}
 
 -- a call, with its inputs
 pub data Call : Type 0 where

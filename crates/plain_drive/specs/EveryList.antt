@@ -7,27 +7,27 @@ use mathlib.Core.List.{List, [], _∷_}
 use lib.Dec.{T, leb}
 use lib.IntN.{pos}
 use lib.Ieee.{Float, binary32, le, ofInt}
-use Rattle.vision_gate.specs.declared.gate.VisionGateState.{VisionGateState}
-use Rattle.vision_gate.specs.declared.gate.VisionGateState.the-variants.{Seeding, Tracking}
+use Rattle.vision_gate.specs.declared.VisionGateState.{VisionGateState}
+use Rattle.vision_gate.specs.declared.VisionGateState.the-variants.{Seeding, Tracking}
 use Rattle.vision_gate.specs.Gate.{distance}
 use Rattle.vision_gate.specs.Vision.{active}
-use Rattle.body_controller.specs.declared.controller.BodyController.{BodyController}
-use Rattle.body_controller.specs.declared.controller.NewAnswer.the-variants as New
-use Rattle.body_controller.specs.declared.sight.SightInput.{SightInput}
-use Rattle.body_controller.specs.declared.sight.SightAnswer.{SightAnswer}
-use Rattle.body_controller.specs.declared.sight.SightAnswer.the-variants as Sights
-use Rattle.body_controller.specs.declared.sight.SightResult.{SightResult}
-use Rattle.body_controller.specs.declared.plan.PlanCallAnswer.{PlanCallAnswer}
-use Rattle.body_controller.specs.declared.plan.PlanCallAnswer.the-variants as Plans
-use Rattle.body_controller.specs.declared.plan.PlanResult.{PlanResult}
-use Rattle.body_controller.specs.declared.steer.SteerAnswer.{SteerAnswer}
-use Rattle.body_controller.specs.declared.steer.SteerAnswer.the-variants as Steers
-use Rattle.body_controller.specs.declared.steer.SteerResult.{SteerResult}
-use Rattle.body_controller.specs.declared.finish.FinishAnswer.{FinishAnswer}
-use Rattle.body_controller.specs.declared.finish.FinishAnswer.the-variants as Finishes
-use Rattle.body_controller.specs.declared.finish.FinishResult.{FinishResult}
-use Rattle.body_controller.specs.declared.turn.Turn.{Turn}
-use Rattle.body_controller.specs.declared.turn.Turn.the-variants as Turns
+use Rattle.body_controller.specs.declared.BodyController.{BodyController}
+use Rattle.body_controller.specs.declared.NewAnswer.the-variants as New
+use Rattle.body_controller.specs.declared.SightInput.{SightInput}
+use Rattle.body_controller.specs.declared.SightAnswer.{SightAnswer}
+use Rattle.body_controller.specs.declared.SightAnswer.the-variants as Sights
+use Rattle.body_controller.specs.declared.SightResult.{SightResult}
+use Rattle.body_controller.specs.declared.PlanCallAnswer.{PlanCallAnswer}
+use Rattle.body_controller.specs.declared.PlanCallAnswer.the-variants as Plans
+use Rattle.body_controller.specs.declared.PlanResult.{PlanResult}
+use Rattle.body_controller.specs.declared.SteerAnswer.{SteerAnswer}
+use Rattle.body_controller.specs.declared.SteerAnswer.the-variants as Steers
+use Rattle.body_controller.specs.declared.SteerResult.{SteerResult}
+use Rattle.body_controller.specs.declared.FinishAnswer.{FinishAnswer}
+use Rattle.body_controller.specs.declared.FinishAnswer.the-variants as Finishes
+use Rattle.body_controller.specs.declared.FinishResult.{FinishResult}
+use Rattle.body_controller.specs.declared.Turn.{Turn}
+use Rattle.body_controller.specs.declared.Turn.the-variants as Turns
 use Rattle.body_controller.specs.Refusal.{refusalNumber}
 use Rattle.body_controller.specs.Counts.{countList}
 use Rattle.body_controller.specs.Controller.{newOf}

@@ -6,35 +6,35 @@ use mathlib.Core.Bool.{Bool, true, false, cond, not, _&&_, _||_}
 use mathlib.Core.List.{List, [], _∷_}
 use lib.Dec.{ltb}
 use lib.Ieee.{Float}
-use Rattle.linear.specs.declared.vector.Vector6f.{Vector6f}
+use Rattle.linear.specs.declared.Vector6f.{Vector6f}
 use Rattle.linear.specs.Vector.{zeros6}
 use Rattle.controller_params.specs.Params.{visionClockStartS}
 use Rattle.tick_length.specs.TickLength.{secondsOf}
-use Rattle.vision_gate.specs.declared.gate.VisionGateState.{VisionGateState}
-use Rattle.vision_gate.specs.declared.gate.VisionGateState.the-variants.{Seeding}
+use Rattle.vision_gate.specs.declared.VisionGateState.{VisionGateState}
+use Rattle.vision_gate.specs.declared.VisionGateState.the-variants.{Seeding}
 use Rattle.vision_gate.specs.Outcome.{takes, overwrites, numberOf}
 use Rattle.vision_gate.specs.Gate.{freshSeeding, judged}
 use Rattle.vision_gate.specs.Vision.{active, clockAfter}
-use Rattle.maneuvers.specs.declared.command.ManeuverCommand.{ManeuverCommand}
-use Rattle.maneuvers.specs.declared.command.CommandAnswer.{CommandAnswer}
-use Rattle.maneuvers.specs.declared.command.CommandAnswer.the-variants as Command
-use Rattle.maneuvers.specs.declared.memory.HeldSample.{HeldSample}
-use Rattle.maneuvers.specs.declared.memory.HeldSample.the-variants as Samples
-use Rattle.maneuvers.specs.declared.memory.PrevCommand.{PrevCommand}
-use Rattle.maneuvers.specs.declared.memory.PrevCommand.the-variants as Prev
-use Rattle.maneuvers.specs.declared.plan.PlanAnswer.{PlanAnswer}
-use Rattle.maneuvers.specs.declared.plan.PlanAnswer.the-variants.{Hold, NoVision, Keep, NewPlan}
+use Rattle.maneuvers.specs.declared.ManeuverCommand.{ManeuverCommand}
+use Rattle.maneuvers.specs.declared.CommandAnswer.{CommandAnswer}
+use Rattle.maneuvers.specs.declared.CommandAnswer.the-variants as Command
+use Rattle.maneuvers.specs.declared.HeldSample.{HeldSample}
+use Rattle.maneuvers.specs.declared.HeldSample.the-variants as Samples
+use Rattle.maneuvers.specs.declared.PrevCommand.{PrevCommand}
+use Rattle.maneuvers.specs.declared.PrevCommand.the-variants as Prev
+use Rattle.maneuvers.specs.declared.PlanAnswer.{PlanAnswer}
+use Rattle.maneuvers.specs.declared.PlanAnswer.the-variants.{Hold, NoVision, Keep, NewPlan}
 use Rattle.maneuvers.specs.Command.{commandFrom}
 use Rattle.maneuvers.specs.Plan.{decided}
-use Rattle.tracking.specs.declared.recovery.TrackingDivergenceState.{TrackingDivergenceState}
-use Rattle.tracking.specs.declared.recovery.TrackingDivergenceState.the-variants.{Normal}
-use Rattle.tracking.specs.declared.recovery.HeldState.{HeldState}
-use Rattle.tracking.specs.declared.recovery.HeldState.the-variants as States
-use Rattle.tracking.specs.declared.recovery.RecoveryAnswer.{RecoveryAnswer}
+use Rattle.tracking.specs.declared.TrackingDivergenceState.{TrackingDivergenceState}
+use Rattle.tracking.specs.declared.TrackingDivergenceState.the-variants.{Normal}
+use Rattle.tracking.specs.declared.HeldState.{HeldState}
+use Rattle.tracking.specs.declared.HeldState.the-variants as States
+use Rattle.tracking.specs.declared.RecoveryAnswer.{RecoveryAnswer}
 use Rattle.tracking.specs.Recovery.{isRecovering, recovery}
-use Rattle.body_controller.specs.declared.sight.SightInput.{SightInput}
-use Rattle.body_controller.specs.declared.plan.PlanInput.{PlanInput}
-use Rattle.body_controller.specs.declared.steer.SteerInput.{SteerInput}
+use Rattle.body_controller.specs.declared.SightInput.{SightInput}
+use Rattle.body_controller.specs.declared.PlanInput.{PlanInput}
+use Rattle.body_controller.specs.declared.SteerInput.{SteerInput}
 use Rattle.plain_drive.specs.Calls.{Call, sight, plan, steer, finish, reset, Reply, outcome, answer, accepted, refused, isReset}
 
 -- ---- 'State'

@@ -5,17 +5,17 @@ use mathlib.Core.Bool.{Bool, true, false, cond}
 use mathlib.Core.List.{List, [], _∷_, head-eq-of-cons-eq}
 use lib.Dec.{eqb}
 use Rattle.tick_length.specs.TickLength.{isTickLength, tickLengthOf}
-use Rattle.body_controller.specs.declared.controller.BodyController.{BodyController}
-use Rattle.body_controller.specs.declared.finish.FinishInput.{FinishInput}
-use Rattle.body_controller.specs.declared.finish.FinishAnswer.{FinishAnswer}
-use Rattle.body_controller.specs.declared.finish.FinishAnswer.the-variants as Finishes
-use Rattle.body_controller.specs.declared.plan.PlanCallAnswer.{PlanCallAnswer}
-use Rattle.body_controller.specs.declared.plan.PlanCallAnswer.the-variants as Plans
-use Rattle.body_controller.specs.declared.sight.SightAnswer.{SightAnswer}
-use Rattle.body_controller.specs.declared.sight.SightAnswer.the-variants as Sights
-use Rattle.body_controller.specs.declared.steer.SteerInput.{SteerInput}
-use Rattle.body_controller.specs.declared.steer.SteerAnswer.{SteerAnswer}
-use Rattle.body_controller.specs.declared.steer.SteerAnswer.the-variants as Steers
+use Rattle.body_controller.specs.declared.BodyController.{BodyController}
+use Rattle.body_controller.specs.declared.FinishInput.{FinishInput}
+use Rattle.body_controller.specs.declared.FinishAnswer.{FinishAnswer}
+use Rattle.body_controller.specs.declared.FinishAnswer.the-variants as Finishes
+use Rattle.body_controller.specs.declared.PlanCallAnswer.{PlanCallAnswer}
+use Rattle.body_controller.specs.declared.PlanCallAnswer.the-variants as Plans
+use Rattle.body_controller.specs.declared.SightAnswer.{SightAnswer}
+use Rattle.body_controller.specs.declared.SightAnswer.the-variants as Sights
+use Rattle.body_controller.specs.declared.SteerInput.{SteerInput}
+use Rattle.body_controller.specs.declared.SteerAnswer.{SteerAnswer}
+use Rattle.body_controller.specs.declared.SteerAnswer.the-variants as Steers
 use Rattle.body_controller.specs.Counts.{noCounts, countList}
 use Rattle.body_controller.specs.Controller.{started, newOf}
 use Rattle.body_controller.specs.Sight.{sightOf}

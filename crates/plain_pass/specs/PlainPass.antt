@@ -9,9 +9,9 @@ use Rattle.tick_length.specs.TickLength.{isTickLength, secondsOf}
 use Rattle.vision_gate.specs.Outcome.{letterOf}
 use Rattle.vision_gate.specs.Vision.{active}
 use Rattle.tracking.specs.Recovery.{isRecovering}
-use Rattle.body_controller.specs.declared.finish.FinishInput.{FinishInput}
-use Rattle.body_controller.specs.declared.plan.PlanInput.{PlanInput}
-use Rattle.body_controller.specs.declared.steer.SteerInput.{SteerInput}
+use Rattle.body_controller.specs.declared.FinishInput.{FinishInput}
+use Rattle.body_controller.specs.declared.PlanInput.{PlanInput}
+use Rattle.body_controller.specs.declared.SteerInput.{SteerInput}
 use Rattle.body_controller.specs.Counts.{countList}
 use Rattle.plain_drive.specs.Calls.{Call, sight, plan, steer, finish, Reply, outcome, answer, accepted, refused}
 use Rattle.plain_drive.specs.PlainDrive as Plain

@@ -3,7 +3,7 @@ use Prim.Native.Nat.{ℕ}
 use mathlib.Core.Bool.{cond, _&&_}
 use mathlib.Core.List.{List}
 use lib.Dec.{eqb}
-use Rattle.linear.specs.declared.vector.Vector2f.{Vector2f}
+use Rattle.linear.specs.declared.Vector2f.{Vector2f}
 use Rattle.linear.specs.Vector.{zeros2}
 use Rattle.first_order_lag.specs.declared.FirstOrderLag.{FirstOrderLag}
 use Rattle.first_order_lag.specs.declared.FirstOrderLagAnswer.{FirstOrderLagAnswer}

@@ -5,16 +5,16 @@ use mathlib.Core.List.{List}
 use lib.Dec.{eqb}
 use Rattle.linear.specs.Vector.{zeroFloat, zeros3, zeros4}
 use Rattle.controller_params.specs.declared.PidGains.{PidGains}
-use Rattle.pid.specs.declared.axis.AntiJitterThresh.{AntiJitterThresh}
-use Rattle.pid.specs.declared.axis.AntiJitterThresh.the-variants as Thresh
-use Rattle.pid.specs.declared.axis.OutputLimits.{OutputLimits}
-use Rattle.pid.specs.declared.axis.OutputLimits.the-variants as Limits
-use Rattle.pid.specs.declared.axis.PidController.{PidController}
-use Rattle.pid.specs.declared.axis.PidAnswer.{PidAnswer}
-use Rattle.pid.specs.declared.axes.PidController3.{PidController3}
-use Rattle.pid.specs.declared.axes.PidController4.{PidController4}
-use Rattle.pid.specs.declared.axes.PidAnswer3.{PidAnswer3}
-use Rattle.pid.specs.declared.axes.PidAnswer4.{PidAnswer4}
+use Rattle.pid.specs.declared.AntiJitterThresh.{AntiJitterThresh}
+use Rattle.pid.specs.declared.AntiJitterThresh.the-variants as Thresh
+use Rattle.pid.specs.declared.OutputLimits.{OutputLimits}
+use Rattle.pid.specs.declared.OutputLimits.the-variants as Limits
+use Rattle.pid.specs.declared.PidController.{PidController}
+use Rattle.pid.specs.declared.PidAnswer.{PidAnswer}
+use Rattle.pid.specs.declared.PidController3.{PidController3}
+use Rattle.pid.specs.declared.PidController4.{PidController4}
+use Rattle.pid.specs.declared.PidAnswer3.{PidAnswer3}
+use Rattle.pid.specs.declared.PidAnswer4.{PidAnswer4}
 use Rattle.pid.specs.Axis.{newController, calculated, calculatedWithDerivative, resetOf}
 use Rattle.pid.specs.Widths.{calculated3, calculated4, calculatedWithDerivative3, calculatedWithDerivative4, reset3, reset4}
 use Rattle.block_words.specs.Word.{wordAt}

@@ -2,12 +2,12 @@
 use Prim.Native.Nat.{ℕ, _+_}
 use mathlib.Core.List.{List, [], _∷_}
 use lib.Ieee.{Float, binary32, ofBits, toBits}
-use Rattle.linear.specs.declared.vector.Vector2f.{Vector2f}
-use Rattle.linear.specs.declared.vector.Vector3f.{Vector3f}
-use Rattle.linear.specs.declared.vector.Vector4f.{Vector4f}
-use Rattle.pid.specs.declared.axis.PidController.{PidController}
-use Rattle.pid.specs.declared.axes.PidController3.{PidController3}
-use Rattle.pid.specs.declared.axes.PidController4.{PidController4}
+use Rattle.linear.specs.declared.Vector2f.{Vector2f}
+use Rattle.linear.specs.declared.Vector3f.{Vector3f}
+use Rattle.linear.specs.declared.Vector4f.{Vector4f}
+use Rattle.pid.specs.declared.PidController.{PidController}
+use Rattle.pid.specs.declared.PidController3.{PidController3}
+use Rattle.pid.specs.declared.PidController4.{PidController4}
 use Rattle.block_words.specs.Word.{wordAt}
 
 -- the float whose bits are word i

@@ -9,7 +9,7 @@ use active_brake::ActiveBrakeController;
 use active_brake::BrakeAnswer;
 use active_brake::BrakeMade;
 use block_words::word_at;
-use linear::vector::Vector4f;
+use linear::Vector4f;
 
 // A header has k and the number of calls.
 pub fn fresh(header: &[u8]) -> Subject

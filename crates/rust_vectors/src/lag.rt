@@ -9,7 +9,7 @@ use block_words::word_at;
 use first_order_lag::FirstOrderLag;
 use first_order_lag::FirstOrderLagAnswer;
 use ieee754::bits::to_bits;
-use linear::vector::Vector2f;
+use linear::Vector2f;
 
 // A header has k, dt in µs, the number of steps, dt and the least time constant in s, and the
 // number of calls. A lag of other numbers is none.

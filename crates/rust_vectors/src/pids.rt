@@ -11,16 +11,16 @@ use crate::words::words3;
 use crate::words::words4;
 use block_words::word_at;
 use controller_params::PidGains;
-use linear::vector::Vector3f;
-use linear::vector::Vector4f;
-use pid::axes::PidAnswer3;
-use pid::axes::PidAnswer4;
-use pid::axes::PidController3;
-use pid::axes::PidController4;
-use pid::axis::AntiJitterThresh;
-use pid::axis::OutputLimits;
-use pid::axis::PidAnswer;
-use pid::axis::PidController;
+use linear::Vector3f;
+use linear::Vector4f;
+use pid::AntiJitterThresh;
+use pid::OutputLimits;
+use pid::PidAnswer;
+use pid::PidAnswer3;
+use pid::PidAnswer4;
+use pid::PidController;
+use pid::PidController3;
+use pid::PidController4;
 
 // A header has the number of calls; the gains, axis by axis; whether there is a threshold, and one
 // for each axis; whether there are limits, the low ones and the high ones.

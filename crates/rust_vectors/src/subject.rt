@@ -8,9 +8,9 @@ use crate::layout::ListOf;
 use crate::pids;
 use active_brake::ActiveBrakeController;
 use first_order_lag::FirstOrderLag;
-use pid::axes::PidController3;
-use pid::axes::PidController4;
-use pid::axis::PidController;
+use pid::PidController;
+use pid::PidController3;
+use pid::PidController4;
 
 pub enum Subject {
     Pid1(PidController),

@@ -4,12 +4,12 @@ ghost use Rattle.rust_vectors.specs.Words.{floatAt, vector2At, vector3At
 use block_words::word_at;
 use ieee754::bits::from_bits;
 use ieee754::bits::to_bits;
-use linear::vector::Vector2f;
-use linear::vector::Vector3f;
-use linear::vector::Vector4f;
-use pid::axes::PidController3;
-use pid::axes::PidController4;
-use pid::axis::PidController;
+use linear::Vector2f;
+use linear::Vector3f;
+use linear::Vector4f;
+use pid::PidController;
+use pid::PidController3;
+use pid::PidController4;
 
 // The float whose bits are word i.
 pub fn float_at(block: &[u8], i: usize) -> f32

@@ -5,11 +5,11 @@ use mathlib.Core.List.{List}
 use lib.Dec.{eqb, ltb}
 use lib.Ieee.{Float}
 use Rattle.linear.specs.Vector.{zeroFloat}
-use Rattle.maneuvers.specs.declared.command.CommandWords.{CommandWords}
-use Rattle.body_controller.specs.declared.finish.FinishInput.{FinishInput}
-use Rattle.body_controller.specs.declared.plan.PlanInput.{PlanInput}
-use Rattle.body_controller.specs.declared.sight.SightInput.{SightInput}
-use Rattle.body_controller.specs.declared.steer.SteerInput.{SteerInput}
+use Rattle.maneuvers.specs.declared.CommandWords.{CommandWords}
+use Rattle.body_controller.specs.declared.FinishInput.{FinishInput}
+use Rattle.body_controller.specs.declared.PlanInput.{PlanInput}
+use Rattle.body_controller.specs.declared.SightInput.{SightInput}
+use Rattle.body_controller.specs.declared.SteerInput.{SteerInput}
 use Rattle.block_words.specs.Word.{wordAt}
 use Rattle.tick_block.specs.Layout as at
 use Rattle.tick_block.specs.Parts.{floatAt, vector3At, vector4At, vector6At, sampleAt, matrix3At, matrix3x4At, matrix4x3At}

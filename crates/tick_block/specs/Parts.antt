@@ -2,13 +2,13 @@
 use Prim.Native.Nat.{ℕ, _+_}
 use mathlib.Core.List.{List}
 use lib.Ieee.{Float, binary32, ofBits}
-use Rattle.linear.specs.declared.matrix.Matrix3.{Matrix3}
-use Rattle.linear.specs.declared.matrix.Matrix3x4.{Matrix3x4}
-use Rattle.linear.specs.declared.matrix.Matrix4x3.{Matrix4x3}
-use Rattle.linear.specs.declared.vector.Vector3f.{Vector3f}
-use Rattle.linear.specs.declared.vector.Vector4f.{Vector4f}
-use Rattle.linear.specs.declared.vector.Vector6f.{Vector6f}
-use Rattle.maneuvers.specs.declared.memory.Sample.{Sample}
+use Rattle.linear.specs.declared.Matrix3.{Matrix3}
+use Rattle.linear.specs.declared.Matrix3x4.{Matrix3x4}
+use Rattle.linear.specs.declared.Matrix4x3.{Matrix4x3}
+use Rattle.linear.specs.declared.Vector3f.{Vector3f}
+use Rattle.linear.specs.declared.Vector4f.{Vector4f}
+use Rattle.linear.specs.declared.Vector6f.{Vector6f}
+use Rattle.maneuvers.specs.declared.Sample.{Sample}
 use Rattle.block_words.specs.Word.{wordAt}
 
 -- the float whose bits are word i

@@ -33,11 +33,11 @@ use crate::parts::vec3_at;
 use crate::parts::vec4_at;
 use crate::parts::vec6_at;
 use block_words::word_at;
-use body_controller::finish::FinishInput;
-use body_controller::plan::PlanInput;
-use body_controller::sight::SightInput;
-use body_controller::steer::SteerInput;
-use maneuvers::command::CommandWords;
+use body_controller::FinishInput;
+use body_controller::PlanInput;
+use body_controller::SightInput;
+use body_controller::SteerInput;
+use maneuvers::CommandWords;
 
 // The words of modes 0 and 1, which use none.
 fn no_words() -> CommandWords

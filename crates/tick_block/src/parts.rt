@@ -4,13 +4,13 @@ ghost use Prim.Native.Nat.{_+_, _<_};
 ghost use Rattle.tick_block.specs.Parts.{floatAt, vector3At, vector4At, vector6At, sampleAt, matrix3At, matrix4x3At, matrix3x4At};
 use block_words::word_at;
 use ieee754::bits::from_bits;
-use linear::matrix::Matrix3;
-use linear::matrix::Matrix3x4;
-use linear::matrix::Matrix4x3;
-use linear::vector::Vector3f;
-use linear::vector::Vector4f;
-use linear::vector::Vector6f;
-use maneuvers::memory::Sample;
+use linear::Matrix3;
+use linear::Matrix3x4;
+use linear::Matrix4x3;
+use linear::Vector3f;
+use linear::Vector4f;
+use linear::Vector6f;
+use maneuvers::Sample;
 
 // The float whose bits are word i.
 pub(crate) fn float_at(block: &[u8], i: usize) -> f32

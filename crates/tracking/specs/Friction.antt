@@ -2,8 +2,8 @@
 use mathlib.Core.Bool.{Bool, cond, _||_}
 use lib.Ieee.{Float, le}
 use Rattle.ieee754.specs.Magnitude.{magnitude}
-use Rattle.linear.specs.declared.vector.Vector3f.{Vector3f}
-use Rattle.linear.specs.declared.vector.Vector6f.{Vector6f}
+use Rattle.linear.specs.declared.Vector3f.{Vector3f}
+use Rattle.linear.specs.declared.Vector6f.{Vector6f}
 use Rattle.linear.specs.Vector.{zeroFloat}
 use Rattle.linear.specs.Rotation.{toLocal}
 use Rattle.controller_params.specs.Params.{frictionCompGating}

@@ -2,9 +2,9 @@
 use mathlib.Core.Bool.{Bool, cond, _&&_, _||_}
 use lib.Ieee.{Float, binary32, mul, div, lt, ne}
 use Rattle.ieee754.specs.Clamp.{clampWithin}
-use Rattle.linear.specs.declared.vector.Vector3f.{Vector3f}
+use Rattle.linear.specs.declared.Vector3f.{Vector3f}
 use Rattle.controller_params.specs.Params.{bodyAccelClampLinear, bodyAccelClampAngular, bodyVelClampLinear, bodyVelClampAngular, stopStateLinearSpeedLimit}
-use Rattle.tracking.specs.declared.limits.Clamped.{Clamped}
+use Rattle.tracking.specs.declared.Clamped.{Clamped}
 use Rattle.tracking.specs.Planar.{normXY}
 
 -- x and y times k

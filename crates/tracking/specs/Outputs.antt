@@ -1,12 +1,12 @@
 -- What finish works out, document 01, 'Finish'. Assumes nothing.
 use lib.Ieee.{Float}
-use Rattle.linear.specs.declared.vector.Vector3f.{Vector3f}
-use Rattle.linear.specs.declared.matrix.Matrix3.{Matrix3}
-use Rattle.linear.specs.declared.matrix.Matrix4x3.{Matrix4x3}
+use Rattle.linear.specs.declared.Vector3f.{Vector3f}
+use Rattle.linear.specs.declared.Matrix3.{Matrix3}
+use Rattle.linear.specs.declared.Matrix4x3.{Matrix4x3}
 use Rattle.linear.specs.Vector.{differenceOf}
 use Rattle.linear.specs.Matrix.{productOf3, productOf4x3}
 use Rattle.linear.specs.Rotation.{toGlobal}
-use Rattle.tracking.specs.declared.outputs.FinishOutputs.{FinishOutputs}
+use Rattle.tracking.specs.declared.FinishOutputs.{FinishOutputs}
 use Rattle.tracking.specs.Limits.{accelClamped}
 
 -- 'Finish': the acceleration less inverse inertia times the friction force in global axes

@@ -2,7 +2,7 @@
 use lib.Ieee.{Float, binary32, add, mul}
 use Rattle.ieee754.specs.Hypot.{hypotenuse}
 use Rattle.ieee754.specs.Root.{squareRoot}
-use Rattle.linear.specs.declared.vector.Vector3f.{Vector3f}
+use Rattle.linear.specs.declared.Vector3f.{Vector3f}
 
 -- `hypotf` of x and y
 unfoldable pub hypotXY : Vector3f → Float

@@ -4,16 +4,16 @@ use mathlib.Core.Bool.{Bool, true, false, cond, _&&_, _||_}
 use lib.Ieee.{Float, binary32, lt}
 use Rattle.ieee754.specs.Magnitude.{magnitude}
 use Rattle.ieee754.specs.Remainder.{remainderBy, tau}
-use Rattle.linear.specs.declared.vector.Vector4f.{Vector4f}
-use Rattle.linear.specs.declared.vector.Vector6f.{Vector6f}
+use Rattle.linear.specs.declared.Vector4f.{Vector4f}
+use Rattle.linear.specs.declared.Vector6f.{Vector6f}
 use Rattle.linear.specs.Vector.{differenceOf}
 use Rattle.controller_params.specs.declared.TrackingErrors.{TrackingErrors}
 use Rattle.controller_params.specs.Params.{trackingErrorThreshold, trackingDivergenceRecoveryRestWheelVel}
-use Rattle.tracking.specs.declared.recovery.TrackingDivergenceState.{TrackingDivergenceState}
-use Rattle.tracking.specs.declared.recovery.TrackingDivergenceState.the-variants.{Normal, Recovering}
-use Rattle.tracking.specs.declared.recovery.HeldState.{HeldState}
-use Rattle.tracking.specs.declared.recovery.HeldState.the-variants.{Absent, Held}
-use Rattle.tracking.specs.declared.recovery.RecoveryAnswer.{RecoveryAnswer}
+use Rattle.tracking.specs.declared.TrackingDivergenceState.{TrackingDivergenceState}
+use Rattle.tracking.specs.declared.TrackingDivergenceState.the-variants.{Normal, Recovering}
+use Rattle.tracking.specs.declared.HeldState.{HeldState}
+use Rattle.tracking.specs.declared.HeldState.the-variants.{Absent, Held}
+use Rattle.tracking.specs.declared.RecoveryAnswer.{RecoveryAnswer}
 use Rattle.tracking.specs.Planar.{hypotXY}
 
 -- 'Steer': recovering, a term of document 01, or Normal

@@ -2,17 +2,17 @@
 -- feedforward alone for the twist. Assumes nothing.
 use lib.Ieee.{Float, binary32, add, sub}
 use Rattle.ieee754.specs.Remainder.{remainderBy, tau}
-use Rattle.linear.specs.declared.vector.Vector3f.{Vector3f}
-use Rattle.linear.specs.declared.vector.Vector6f.{Vector6f}
+use Rattle.linear.specs.declared.Vector3f.{Vector3f}
+use Rattle.linear.specs.declared.Vector6f.{Vector6f}
 use Rattle.linear.specs.Vector.{zeros3, sumOf, differenceOf, scaled}
 use Rattle.controller_params.specs.Params.{linearPosePidGains, angularPosePidGains, posePidAntiJitterThresh, poseAccelFeedbackGain, poseVelFeedforwardGain}
-use Rattle.pid.specs.declared.axis.AntiJitterThresh.the-variants.{Below}
-use Rattle.pid.specs.declared.axis.OutputLimits.the-variants.{Absent}
-use Rattle.pid.specs.declared.axes.PidController3.{PidController3}
+use Rattle.pid.specs.declared.AntiJitterThresh.the-variants.{Below}
+use Rattle.pid.specs.declared.OutputLimits.the-variants.{Absent}
+use Rattle.pid.specs.declared.PidController3.{PidController3}
 use Rattle.pid.specs.Axis.{newController}
 use Rattle.pid.specs.Widths.{calculatedWithDerivative3}
-use Rattle.tracking.specs.declared.setpoints.ManeuverSetpoints.{ManeuverSetpoints}
-use Rattle.tracking.specs.declared.setpoints.TrackingAnswer.{TrackingAnswer}
+use Rattle.tracking.specs.declared.ManeuverSetpoints.{ManeuverSetpoints}
+use Rattle.tracking.specs.declared.TrackingAnswer.{TrackingAnswer}
 
 -- document 01, 'Plan': hold and no vision give zeros
 unfoldable pub zeroSetpoints : ManeuverSetpoints

@@ -4,9 +4,9 @@ ghost use Rattle.tracking.specs.Friction.{linearCompOn, angularCompOn, k
 use crate::planar::hypot_xy;
 use controller_params::FRICTION_COMP_GATING;
 use ieee754::bits::abs;
+use linear::Vector3f;
+use linear::Vector6f;
 use linear::rotation::rotate_to_local;
-use linear::vector::Vector3f;
-use linear::vector::Vector6f;
 
 fn linear_comp_on(vel: Vector3f, accel: Vector3f) -> bool
     ensures { λ r. ⌜ r ≡ linearCompOn vel accel ⌝ }

@@ -1,6 +1,7 @@
 // What body_controller.rs does to setpoints: the stop state's speed, and the two clamps.
 ghost use mathlib.Core.Path.{_≡_};
 ghost use Rattle.tracking.specs.Limits.{stopScaled, clampedTo, twistClamped, accelClamped};
+use crate::Clamped;
 use crate::planar::norm_xy;
 use controller_params::BODY_ACCEL_CLAMP_ANGULAR;
 use controller_params::BODY_ACCEL_CLAMP_LINEAR;
@@ -8,13 +9,7 @@ use controller_params::BODY_VEL_CLAMP_ANGULAR;
 use controller_params::BODY_VEL_CLAMP_LINEAR;
 use controller_params::STOP_STATE_LINEAR_SPEED_LIMIT;
 use ieee754::clamp::clamp_within;
-use linear::vector::Vector3f;
-
-// A vector within its bounds, and document 01's clamp mark: an entry is not equal to the one given.
-pub struct Clamped {
-    pub value: Vector3f,
-    pub clamped: bool,
-}
+use linear::Vector3f;
 
 // In the stop state the linear speed is scaled down to its limit; the angular one stays.
 pub fn stop_scaled(stop: bool, twist: Vector3f) -> Vector3f

@@ -1,20 +1,12 @@
 // What finish makes of steer's twist and acceleration once the friction force is known.
 ghost use mathlib.Core.Path.{_≡_};
 ghost use Rattle.tracking.specs.Outputs.{frictionCompensated, finishOutputs};
+use crate::FinishOutputs;
 use crate::limits::clamp_accel;
-use linear::matrix::Matrix3;
-use linear::matrix::Matrix4x3;
+use linear::Matrix3;
+use linear::Matrix4x3;
+use linear::Vector3f;
 use linear::rotation::rotate_to_global;
-use linear::vector::Vector3f;
-use linear::vector::Vector4f;
-
-// `BodyController`'s outputs that finish sets, and the acceleration's clamp mark.
-pub struct FinishOutputs {
-    pub body_accel_out_fric_comp: Vector3f,
-    pub accel_clamped: bool,
-    pub wheel_vel_out: Vector4f,
-    pub wheel_torque_out: Vector4f,
-}
 
 // The acceleration less what the friction force, given in local axes, will take.
 fn friction_compensated(

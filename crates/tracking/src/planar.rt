@@ -3,7 +3,7 @@ ghost use mathlib.Core.Path.{_≡_};
 ghost use Rattle.tracking.specs.Planar.{hypotXY, normXY};
 use ieee754::hypot::hypot;
 use ieee754::root::sqrt;
-use linear::vector::Vector3f;
+use linear::Vector3f;
 
 // By hypotf.
 pub fn hypot_xy(v: Vector3f) -> f32

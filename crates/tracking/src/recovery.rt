@@ -2,31 +2,17 @@
 // at rest end that with a reset.
 ghost use mathlib.Core.Path.{_≡_};
 ghost use Rattle.tracking.specs.Recovery.{isRecovering, divergenceLetter, trackingErrors, anyExceeds, trackingErrorExceeded, atRest, recovery};
+use crate::HeldState;
+use crate::RecoveryAnswer;
+use crate::TrackingDivergenceState;
 use crate::planar::hypot_xy;
 use controller_params::TRACKING_DIVERGENCE_RECOVERY_REST_WHEEL_VEL;
 use controller_params::TRACKING_ERROR_THRESHOLD;
 use controller_params::TrackingErrors;
 use ieee754::bits::abs;
 use ieee754::remainder::remainder;
-use linear::vector::Vector4f;
-use linear::vector::Vector6f;
-
-pub enum TrackingDivergenceState {
-    Normal,
-    Recovering,
-}
-
-// The state of the sample that is held, if one is.
-pub enum HeldState {
-    Absent,
-    Held(Vector6f),
-}
-
-// The state after a tick; where `reset` is set, the caller resets the rest too.
-pub struct RecoveryAnswer {
-    pub state: TrackingDivergenceState,
-    pub reset: bool,
-}
+use linear::Vector4f;
+use linear::Vector6f;
 
 impl TrackingDivergenceState {
     // `tracking_divergence_recovery_active`.

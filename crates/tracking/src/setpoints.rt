@@ -2,23 +2,20 @@
 // POSE_ACCEL_MODE is FeedbackOnly and POSE_VEL_MODE is FeedforwardOnly.
 ghost use mathlib.Core.Path.{_≡_};
 ghost use Rattle.tracking.specs.Setpoints.{zeroSetpoints, posePid, wrapped, twistSetpoint, accelSetpoint, trackingSetpoints};
+use crate::ManeuverSetpoints;
+use crate::TrackingAnswer;
 use controller_params::ANGULAR_POSE_PID_GAINS;
 use controller_params::LINEAR_POSE_PID_GAINS;
 use controller_params::POSE_ACCEL_FEEDBACK_GAIN;
 use controller_params::POSE_PID_ANTI_JITTER_THRESH;
 use controller_params::POSE_VEL_FEEDFORWARD_GAIN;
 use ieee754::remainder::remainder;
-use linear::vector::Vector3f;
-use linear::vector::Vector6f;
-use pid::axes::PidController3;
-use pid::axis::AntiJitterThresh;
-use pid::axis::OutputLimits;
-use pid::axis::PidController;
-
-pub struct ManeuverSetpoints {
-    pub body_twist: Vector3f,
-    pub body_accel: Vector3f,
-}
+use linear::Vector3f;
+use linear::Vector6f;
+use pid::AntiJitterThresh;
+use pid::OutputLimits;
+use pid::PidController;
+use pid::PidController3;
 
 impl ManeuverSetpoints {
     pub fn zero() -> Self
@@ -29,12 +26,6 @@ impl ManeuverSetpoints {
             body_accel: Vector3f::zeros(),
         }
     }
-}
-
-// What tracking answers, beside the pose's PID as the call leaves it.
-pub struct TrackingAnswer {
-    pub setpoints: ManeuverSetpoints,
-    pub controller: PidController3,
 }
 
 // `pose_pid_controller` of a new context: x and y alike, and the heading; no output limits.

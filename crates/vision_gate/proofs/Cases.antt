@@ -10,10 +10,10 @@ use Rattle.ieee754.specs.Root.{squareRoot, rootOf, wholeRoot, rootDigits, stick
 use Rattle.controller_params.specs.Params.{visionGateBaseRadiusM}
 use Rattle.linear.specs.Vector.{zeroFloat, zeros2, zeros3, zeros6}
 use Rattle.tick_length.specs.TickLength.{secondsOf}
-use Rattle.vision_gate.specs.declared.gate.GateAction.the-variants.{Accumulate, SeedComplete, SeedReset, AcceptJump, FirstReject, Reject}
-use Rattle.vision_gate.specs.declared.gate.VisionGateState.{VisionGateState}
-use Rattle.vision_gate.specs.declared.gate.VisionGateState.the-variants.{Seeding, Tracking}
-use Rattle.vision_gate.specs.declared.gate.Judgement.{Judgement}
+use Rattle.vision_gate.specs.declared.GateAction.the-variants.{Accumulate, SeedComplete, SeedReset, AcceptJump, FirstReject, Reject}
+use Rattle.vision_gate.specs.declared.VisionGateState.{VisionGateState}
+use Rattle.vision_gate.specs.declared.VisionGateState.the-variants.{Seeding, Tracking}
+use Rattle.vision_gate.specs.declared.Judgement.{Judgement}
 use Rattle.vision_gate.specs.Gate.{freshSeeding, gathered, deviation, steady, seedingJudged, distance, radius, trackingJudged, sightingJudged, quiet, judged}
 use Rattle.vision_gate.specs.Vision.{active}
 use Rattle.vision_gate.specs.Since.{clockSince}

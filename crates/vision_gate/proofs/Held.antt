@@ -8,12 +8,12 @@ use lib.Dec.{T, leb}
 use lib.IntN.{pos}
 use lib.Ieee.{binary32, le, ofInt}
 use Rattle.controller_params.specs.Params.{visionClockStartS}
-use Rattle.linear.specs.declared.vector.Vector3f.{Vector3f}
-use Rattle.linear.specs.declared.vector.Vector6f.{Vector6f}
+use Rattle.linear.specs.declared.Vector3f.{Vector3f}
+use Rattle.linear.specs.declared.Vector6f.{Vector6f}
 use Rattle.linear.specs.Vector.{zeroFloat}
 use Rattle.tick_length.specs.TickLength.{secondsOf}
-use Rattle.vision_gate.specs.declared.gate.VisionGateState.the-variants.{Tracking}
-use Rattle.vision_gate.specs.declared.vision.Vision.{Vision}
+use Rattle.vision_gate.specs.declared.VisionGateState.the-variants.{Tracking}
+use Rattle.vision_gate.specs.declared.Vision.{Vision}
 use Rattle.vision_gate.specs.Outcome.{takes}
 use Rattle.vision_gate.specs.Gate.{distance}
 use Rattle.vision_gate.specs.Vision.{active, clockAfter, newVision, visionAfter}

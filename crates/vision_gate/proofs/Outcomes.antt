@@ -10,14 +10,14 @@ use borrow.Author.Tests.{ltb-true, le-ltb}
 use lib.Dec.{lit<, ltb}
 use lib.Ieee.{Float, nan, binary32, add, lt, le, eq}
 use Rattle.controller_params.specs.Params.{visionSeedSamples, visionSeedPosStdThreshM, visionGateBaseRadiusM}
-use Rattle.linear.specs.declared.vector.Vector3f.{Vector3f}
-use Rattle.linear.specs.declared.vector.Vector6f.{Vector6f}
+use Rattle.linear.specs.declared.Vector3f.{Vector3f}
+use Rattle.linear.specs.declared.Vector6f.{Vector6f}
 use Rattle.linear.specs.Vector.{zeroFloat}
-use Rattle.vision_gate.specs.declared.gate.Seeding.{Seeding}
-use Rattle.vision_gate.specs.declared.gate.VisionGateState.{VisionGateState}
-use Rattle.vision_gate.specs.declared.gate.VisionGateState.the-variants as Gate
-use Rattle.vision_gate.specs.declared.gate.GateAction.the-variants.{Accumulate, SeedComplete, SeedReset, Accept, AcceptJump, FirstReject, Reject}
-use Rattle.vision_gate.specs.declared.gate.Judgement.{Judgement}
+use Rattle.vision_gate.specs.declared.Seeding.{Seeding}
+use Rattle.vision_gate.specs.declared.VisionGateState.{VisionGateState}
+use Rattle.vision_gate.specs.declared.VisionGateState.the-variants as Gate
+use Rattle.vision_gate.specs.declared.GateAction.the-variants.{Accumulate, SeedComplete, SeedReset, Accept, AcceptJump, FirstReject, Reject}
+use Rattle.vision_gate.specs.declared.Judgement.{Judgement}
 use Rattle.vision_gate.specs.Outcome.{takes}
 use Rattle.vision_gate.specs.Gate.{freshSeeding, gathered, deviationX, deviationY, steady, seedingJudged, distance, radius, trackingJudged, sightingJudged, quiet, judged}
 

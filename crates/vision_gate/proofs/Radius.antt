@@ -13,10 +13,10 @@ use lib.Ieee.Back.{round-whole}
 use Rattle.controller_params.specs.Params.{visionGateBaseRadiusM, visionGateExpandRateMPerS}
 use Rattle.linear.specs.Vector.{zeroFloat}
 use Rattle.tick_length.specs.TickLength.{secondsOf}
-use Rattle.linear.specs.declared.vector.Vector3f.{Vector3f}
-use Rattle.linear.specs.declared.vector.Vector6f.{Vector6f}
-use Rattle.vision_gate.specs.declared.gate.VisionGateState.the-variants.{Tracking}
-use Rattle.vision_gate.specs.declared.gate.GateAction.the-variants.{FirstReject, Reject}
+use Rattle.linear.specs.declared.Vector3f.{Vector3f}
+use Rattle.linear.specs.declared.Vector6f.{Vector6f}
+use Rattle.vision_gate.specs.declared.VisionGateState.the-variants.{Tracking}
+use Rattle.vision_gate.specs.declared.GateAction.the-variants.{FirstReject, Reject}
 use Rattle.vision_gate.specs.Outcome.{takes}
 use Rattle.vision_gate.specs.Gate.{distance, radius, trackingJudged, sightingJudged, judged}
 use Rattle.vision_gate.specs.Since.{sinceTaken}

@@ -6,15 +6,15 @@ use lib.IntN.{pos}
 use lib.Ieee.{Float, binary32, ofInt, add, sub, mul, div, lt, le, eq}
 use Rattle.ieee754.specs.Root.{squareRoot}
 use Rattle.ieee754.specs.Hypot.{hypotenuse}
-use Rattle.linear.specs.declared.vector.Vector3f.{Vector3f}
-use Rattle.linear.specs.declared.vector.Vector6f.{Vector6f}
+use Rattle.linear.specs.declared.Vector3f.{Vector3f}
+use Rattle.linear.specs.declared.Vector6f.{Vector6f}
 use Rattle.linear.specs.Vector.{zeroFloat, zeros2}
 use Rattle.controller_params.specs.Params.{visionSeedSamples, visionSeedPosStdThreshM, visionGateBaseRadiusM, visionGateExpandRateMPerS}
-use Rattle.vision_gate.specs.declared.gate.Seeding.{Seeding}
-use Rattle.vision_gate.specs.declared.gate.VisionGateState.{VisionGateState}
-use Rattle.vision_gate.specs.declared.gate.VisionGateState.the-variants as Gate
-use Rattle.vision_gate.specs.declared.gate.GateAction.the-variants.{NoVision, Accumulate, SeedComplete, SeedReset, Accept, AcceptJump, FirstReject, Reject}
-use Rattle.vision_gate.specs.declared.gate.Judgement.{Judgement}
+use Rattle.vision_gate.specs.declared.Seeding.{Seeding}
+use Rattle.vision_gate.specs.declared.VisionGateState.{VisionGateState}
+use Rattle.vision_gate.specs.declared.VisionGateState.the-variants as Gate
+use Rattle.vision_gate.specs.declared.GateAction.the-variants.{NoVision, Accumulate, SeedComplete, SeedReset, Accept, AcceptJump, FirstReject, Reject}
+use Rattle.vision_gate.specs.declared.Judgement.{Judgement}
 
 -- ---- 'Seeding'
 

@@ -2,8 +2,8 @@
 -- Assumes nothing.
 use Prim.Native.Nat.{ℕ}
 use mathlib.Core.Bool.{Bool, true, false}
-use Rattle.vision_gate.specs.declared.gate.GateAction.{GateAction}
-use Rattle.vision_gate.specs.declared.gate.GateAction.the-variants.{NoVision, Accumulate, SeedComplete, SeedReset, Accept, AcceptJump, FirstReject, Reject}
+use Rattle.vision_gate.specs.declared.GateAction.{GateAction}
+use Rattle.vision_gate.specs.declared.GateAction.the-variants.{NoVision, Accumulate, SeedComplete, SeedReset, Accept, AcceptJump, FirstReject, Reject}
 
 -- the letter, by its ASCII code
 abbrev pub letterOf : GateAction → ℕ

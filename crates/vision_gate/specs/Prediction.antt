@@ -1,12 +1,12 @@
 -- Document 01, 'Gate' and 'Stand-ins': what an outcome does to the six predicted numbers. Assumes nothing.
 use mathlib.Core.Bool.{cond}
 use lib.Ieee.{Float}
-use Rattle.linear.specs.declared.vector.Vector3f.{Vector3f}
-use Rattle.linear.specs.declared.vector.Vector4f.{Vector4f}
-use Rattle.linear.specs.declared.vector.Vector6f.{Vector6f}
-use Rattle.linear.specs.declared.matrix.Matrix3x4.{Matrix3x4}
+use Rattle.linear.specs.declared.Vector3f.{Vector3f}
+use Rattle.linear.specs.declared.Vector4f.{Vector4f}
+use Rattle.linear.specs.declared.Vector6f.{Vector6f}
+use Rattle.linear.specs.declared.Matrix3x4.{Matrix3x4}
 use Rattle.linear.specs.Matrix.{productOf3x4}
-use Rattle.vision_gate.specs.declared.gate.GateAction.{GateAction}
+use Rattle.vision_gate.specs.declared.GateAction.{GateAction}
 use Rattle.vision_gate.specs.Outcome.{overwrites}
 
 -- 'velocity from wheels with the gyro third'; m is wheel-to-twist at the sighted heading

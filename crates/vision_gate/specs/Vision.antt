@@ -1,13 +1,13 @@
 -- Document 01, 'Gate', the vision clock, and the gate together with it. Assumes nothing.
 use mathlib.Core.Bool.{Bool, cond}
 use lib.Ieee.{Float, binary32, add, le}
-use Rattle.linear.specs.declared.vector.Vector3f.{Vector3f}
-use Rattle.linear.specs.declared.vector.Vector6f.{Vector6f}
+use Rattle.linear.specs.declared.Vector3f.{Vector3f}
+use Rattle.linear.specs.declared.Vector6f.{Vector6f}
 use Rattle.linear.specs.Vector.{zeroFloat}
 use Rattle.controller_params.specs.Params.{visionActiveTimeoutS, visionClockStartS}
-use Rattle.vision_gate.specs.declared.gate.VisionGateState.the-variants as Gate
-use Rattle.vision_gate.specs.declared.vision.Vision.{Vision}
-use Rattle.vision_gate.specs.declared.vision.VisionAnswer.{VisionAnswer}
+use Rattle.vision_gate.specs.declared.VisionGateState.the-variants as Gate
+use Rattle.vision_gate.specs.declared.Vision.{Vision}
+use Rattle.vision_gate.specs.declared.VisionAnswer.{VisionAnswer}
 use Rattle.vision_gate.specs.Outcome.{takes}
 use Rattle.vision_gate.specs.Gate.{freshSeeding, judged}
 

@@ -2,54 +2,19 @@
 ghost use mathlib.Core.Path.{_≡_};
 ghost use Rattle.vision_gate.specs.Outcome.{letterOf, takes, overwrites};
 ghost use Rattle.vision_gate.specs.Gate.{freshSeeding, gathered, deviation, steady, seedingJudged, distance, radius, trackingJudged, sightingJudged, quiet, judged};
+use crate::GateAction;
+use crate::Judgement;
+use crate::Seeding;
+use crate::VisionGateState;
 use controller_params::VISION_GATE_BASE_RADIUS_M;
 use controller_params::VISION_GATE_EXPAND_RATE_M_PER_S;
 use controller_params::VISION_SEED_POS_STD_THRESH_M;
 use controller_params::VISION_SEED_SAMPLES;
 use ieee754::hypot::hypot;
 use ieee754::root::sqrt;
-use linear::vector::Vector2f;
-use linear::vector::Vector3f;
-use linear::vector::Vector6f;
-
-// The sightings of a seeding: how many, the sums of their places and of the squares.
-pub struct Seeding {
-    pub n: u32,
-    pub pos_sum: Vector2f,
-    pub pos_sq_sum: Vector2f,
-}
-
-pub enum VisionGateState {
-    Seeding(Seeding),
-    // time_since_last_valid_s, document 01's t.
-    Tracking(f32),
-}
-
-// Document 01's outcomes, in its order.
-pub enum GateAction {
-    // quiet, Q
-    NoVision,
-    // gathered, G
-    Accumulate,
-    // complete, C
-    SeedComplete,
-    // reseeded, S
-    SeedReset,
-    // taken, T
-    Accept,
-    // jump, J
-    AcceptJump,
-    // first refusal, F
-    FirstReject,
-    // refused, R
-    Reject,
-}
-
-// What a tick makes of the gate.
-pub struct Judgement {
-    pub action: GateAction,
-    pub gate: VisionGateState,
-}
+use linear::Vector2f;
+use linear::Vector3f;
+use linear::Vector6f;
 
 impl GateAction {
     // Document 01's letter.

@@ -1,11 +1,11 @@
 // What an outcome does to the six predicted numbers.
 ghost use mathlib.Core.Path.{_≡_};
 ghost use Rattle.vision_gate.specs.Prediction.{velocityOf, predictedAfter};
-use crate::gate::GateAction;
-use linear::matrix::Matrix3x4;
-use linear::vector::Vector3f;
-use linear::vector::Vector4f;
-use linear::vector::Vector6f;
+use crate::GateAction;
+use linear::Matrix3x4;
+use linear::Vector3f;
+use linear::Vector4f;
+use linear::Vector6f;
 
 // The velocity that wheels and gyro measure.
 fn vel_seed(wheel2twist: Matrix3x4, wheels: Vector4f, gyro: f32) -> Vector3f

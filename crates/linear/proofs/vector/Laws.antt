@@ -1,8 +1,8 @@
 -- The dot product written out at the two widths in use: from the left, starting with the first product. Assumes nothing.
 use mathlib.Core.Path.{_≡_, refl}
 use lib.Ieee.{binary32, add, mul}
-use Rattle.linear.specs.declared.vector.Vector3f.{Vector3f}
-use Rattle.linear.specs.declared.vector.Vector4f.{Vector4f}
+use Rattle.linear.specs.declared.Vector3f.{Vector3f}
+use Rattle.linear.specs.declared.Vector4f.{Vector4f}
 use Rattle.linear.specs.Vector.{entries3, entries4, dotOf, addProducts}
 
 pub dot-of-three : (u v : Vector3f)

@@ -6,8 +6,8 @@ use mathlib.Core.List.{List, [], _∷_}
 use borrow.Author.Tests.{eqb-true, eqb-false, eq-eqb, ne-eqb}
 use lib.Dec.{eqb}
 use lib.Ieee.{Float, nan, inf, fin, binary32, up, down, level, eq, isNan, ofBits}
-use Rattle.maneuvers.specs.declared.command.ManeuverCommand.{ManeuverCommand}
-use Rattle.maneuvers.specs.declared.command.CommandWords.{CommandWords}
+use Rattle.maneuvers.specs.declared.ManeuverCommand.{ManeuverCommand}
+use Rattle.maneuvers.specs.declared.CommandWords.{CommandWords}
 use Rattle.maneuvers.specs.Command.{modeOf, positionFrom, lineFrom, positionFields, lineFields, fieldsOf, fieldsEqual, equal}
 
 -- ---- words

@@ -4,12 +4,12 @@ use mathlib.Core.Path.{_≡_, refl}
 use mathlib.Core.Bool.{Bool, true, false, cond}
 use borrow.Author.Tests.{eq-eqb}
 use lib.Dec.{eqb}
-use Rattle.linear.specs.declared.vector.Vector6f.{Vector6f}
-use Rattle.maneuvers.specs.declared.command.ManeuverCommand.{ManeuverCommand}
-use Rattle.maneuvers.specs.declared.memory.Sample.{Sample}
-use Rattle.maneuvers.specs.declared.memory.HeldSample.the-variants.{Held}
-use Rattle.maneuvers.specs.declared.memory.Memory.{Memory}
-use Rattle.maneuvers.specs.declared.plan.PlanAnswer.the-variants.{Hold, NoVision, Keep, NewPlan}
+use Rattle.linear.specs.declared.Vector6f.{Vector6f}
+use Rattle.maneuvers.specs.declared.ManeuverCommand.{ManeuverCommand}
+use Rattle.maneuvers.specs.declared.Sample.{Sample}
+use Rattle.maneuvers.specs.declared.HeldSample.the-variants.{Held}
+use Rattle.maneuvers.specs.declared.Memory.{Memory}
+use Rattle.maneuvers.specs.declared.PlanAnswer.the-variants.{Hold, NoVision, Keep, NewPlan}
 use Rattle.maneuvers.specs.Memory.{emptyMemory}
 use Rattle.maneuvers.specs.Plan.{holds, hold, inMode, plansAnew, seedOf, maneuverAnswer, decided}
 

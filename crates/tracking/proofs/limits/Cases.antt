@@ -3,7 +3,7 @@ use mathlib.Core.Path.{_≡_, refl}
 use mathlib.Core.Bool.{true, false}
 use lib.Ieee.{nan, binary32, ofBits, lt, eq, ne, neg}
 use Rattle.ieee754.specs.Clamp.{clampWithin}
-use Rattle.linear.specs.declared.vector.Vector3f.{Vector3f}
+use Rattle.linear.specs.declared.Vector3f.{Vector3f}
 use Rattle.linear.specs.Vector.{zeroFloat}
 use Rattle.tracking.specs.Limits.{clampedTo, twistClamped}
 

@@ -6,7 +6,7 @@ use mathlib.Core.Bool.{Bool, true, false, not, _||_, true≢false}
 use lib.Dec.{T}
 use lib.Ieee.{Float, nan, lt, le, eq, ne, neg, ofBits}
 use Rattle.ieee754.proofs.clamp.Laws.{clampWithin-within}
-use Rattle.linear.specs.declared.vector.Vector3f.{Vector3f}
+use Rattle.linear.specs.declared.Vector3f.{Vector3f}
 use Rattle.controller_params.specs.Params.{bodyAccelClampLinear, bodyAccelClampAngular, bodyVelClampLinear, bodyVelClampAngular}
 use Rattle.tracking.specs.Limits.{clampedTo, twistClamped, accelClamped}
 

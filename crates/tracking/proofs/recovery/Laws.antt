@@ -1,10 +1,10 @@
 -- What recovery does where no sample is held. Assumes nothing.
 use mathlib.Core.Path.{_≡_, refl}
 use mathlib.Core.Bool.{false}
-use Rattle.linear.specs.declared.vector.Vector4f.{Vector4f}
-use Rattle.linear.specs.declared.vector.Vector6f.{Vector6f}
-use Rattle.tracking.specs.declared.recovery.TrackingDivergenceState.the-variants.{Normal}
-use Rattle.tracking.specs.declared.recovery.HeldState.the-variants.{Absent}
+use Rattle.linear.specs.declared.Vector4f.{Vector4f}
+use Rattle.linear.specs.declared.Vector6f.{Vector6f}
+use Rattle.tracking.specs.declared.TrackingDivergenceState.the-variants.{Normal}
+use Rattle.tracking.specs.declared.HeldState.the-variants.{Absent}
 use Rattle.tracking.specs.Recovery.{trackingErrorExceeded, recovery}
 
 -- with none held Normal stays

@@ -3,10 +3,10 @@ use mathlib.Core.Path.{_≡_, refl}
 use mathlib.Core.Bool.{Bool, true, false, cond}
 use borrow.Author.Needs.{needs}
 use borrow.Author.Tests.{lt-ltb, le-ltb}
-use Rattle.linear.specs.declared.vector.Vector6f.{Vector6f}
-use Rattle.maneuvers.specs.declared.command.ManeuverCommand.{ManeuverCommand}
-use Rattle.maneuvers.specs.declared.memory.Memory.{Memory}
-use Rattle.maneuvers.specs.declared.plan.PlanAnswer.the-variants.{Keep, NewPlan}
+use Rattle.linear.specs.declared.Vector6f.{Vector6f}
+use Rattle.maneuvers.specs.declared.ManeuverCommand.{ManeuverCommand}
+use Rattle.maneuvers.specs.declared.Memory.{Memory}
+use Rattle.maneuvers.specs.declared.PlanAnswer.the-variants.{Keep, NewPlan}
 use Rattle.maneuvers.specs.Plan.{hold, plansAnew, seedOf, maneuverAnswer, decided, answerNumber, numberDecided}
 use Rattle.maneuvers.proofs.plan.decide.Statement.{statement}
 use Rattle.maneuvers.proofs.plan.decide.Tie as tie

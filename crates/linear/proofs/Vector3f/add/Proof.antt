@@ -1,0 +1,12 @@
+-- `linear::Vector3f::add` meets its contract, by computation. Assumes nothing.
+use mathlib.Core.Path.{refl}
+use Rattle.linear.specs.Vector.{sumOf}
+use Rattle.linear.proofs.Vector3f.add.Statement.{statement}
+use Rattle.linear.proofs.Vector3f.add.Tie as tie
+
+returns : tie.Need-returns
+unfolding sumOf
+returns c = refl
+
+pub add-spec : {M : Type 1} → statement M
+add-spec = tie.close (tie.spec returns)

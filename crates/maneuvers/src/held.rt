@@ -1,0 +1,51 @@
+// What is remembered between ticks: the held sample and the previous command.
+ghost use mathlib.Core.Path.{_≡_};
+ghost use Rattle.maneuvers.specs.Memory.{emptyMemory, trajectoryDropped, afterTracking, commandChanged};
+use crate::HeldSample;
+use crate::ManeuverCommand;
+use crate::Memory;
+use crate::PrevCommand;
+use crate::Sample;
+
+impl PrevCommand {
+    pub fn command_changed(self, cmd: ManeuverCommand) -> bool
+        ensures { λ r. ⌜ r ≡ commandChanged self cmd ⌝ }
+    {
+        match self {
+            PrevCommand::Absent => true,
+            PrevCommand::Was(prev) => !prev.eq(cmd),
+        }
+    }
+}
+
+impl Memory {
+    // Trajectory and previous command dropped: the start, and what hold, a changed mode, C, J and a reset leave.
+    pub fn empty() -> Memory
+        ensures { λ r. ⌜ r ≡ emptyMemory ⌝ }
+    {
+        Memory {
+            held: HeldSample::Absent,
+            prev_cmd: PrevCommand::Absent,
+        }
+    }
+
+    // What a planner failure leaves.
+    pub fn drop_trajectory(self) -> Memory
+        ensures { λ r. ⌜ r ≡ trajectoryDropped self ⌝ }
+    {
+        let prev_cmd = self.prev_cmd;
+        Memory {
+            held: HeldSample::Absent,
+            prev_cmd,
+        }
+    }
+
+    pub fn after_tracking(next: Sample, cmd: ManeuverCommand) -> Memory
+        ensures { λ r. ⌜ r ≡ afterTracking next cmd ⌝ }
+    {
+        Memory {
+            held: HeldSample::Held(next),
+            prev_cmd: PrevCommand::Was(cmd),
+        }
+    }
+}

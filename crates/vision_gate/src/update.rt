@@ -1,0 +1,66 @@
+// Gate and vision clock together, a tick at a time.
+ghost use mathlib.Core.Path.{_≡_};
+ghost use Rattle.vision_gate.specs.Vision.{clockAfter, active, newVision, visionAfter};
+use crate::Seeding;
+use crate::Vision;
+use crate::VisionAnswer;
+use crate::VisionGateState;
+use controller_params::VISION_ACTIVE_TIMEOUT_S;
+use controller_params::VISION_CLOCK_START_S;
+use linear::Vector3f;
+use linear::Vector6f;
+
+// The vision clock after a tick; beyond the timeout it stands still.
+fn clock_after(clock: f32, taken: bool, dt: f32) -> f32
+    ensures { λ r. ⌜ r ≡ clockAfter clock taken dt ⌝ }
+{
+    if taken {
+        0.0
+    } else {
+        if clock <= VISION_ACTIVE_TIMEOUT_S {
+            clock + dt
+        } else {
+            clock
+        }
+    }
+}
+
+impl Vision {
+    // New, and what a reset leaves.
+    pub fn new() -> Vision
+        ensures { λ r. ⌜ r ≡ newVision ⌝ }
+    {
+        Vision {
+            gate: VisionGateState::Seeding(Seeding::fresh()),
+            time_since_vision_update_s: VISION_CLOCK_START_S,
+        }
+    }
+
+    pub fn vision_active(self) -> bool
+        ensures { λ r. ⌜ r ≡ active (self .«time_since_vision_update_s») ⌝ }
+    {
+        self.time_since_vision_update_s <= VISION_ACTIVE_TIMEOUT_S
+    }
+
+    // One tick: the gate judges, and the clock moves.
+    pub fn update(
+        self,
+        seen: bool,
+        sighting: Vector3f,
+        predicted: Vector6f,
+        dt: f32,
+    ) -> VisionAnswer
+        ensures { λ r. ⌜ r ≡ visionAfter self seen sighting predicted dt ⌝ }
+    {
+        let gate = self.gate;
+        let j = gate.judge(seen, sighting, predicted, dt);
+        let action = j.action;
+        let next = j.gate;
+        let clock = clock_after(self.time_since_vision_update_s, action.takes(), dt);
+        let vision = Vision {
+            gate: next,
+            time_since_vision_update_s: clock,
+        };
+        VisionAnswer { action, vision }
+    }
+}
