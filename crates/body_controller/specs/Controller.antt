@@ -13,18 +13,15 @@ use Rattle.body_controller.specs.declared.BodyController.{BodyController
 use Rattle.body_controller.specs.declared.Choices.{Choices}
 use Rattle.body_controller.specs.declared.NewAnswer.{NewAnswer}
 use Rattle.body_controller.specs.declared.NewAnswer.the-variants.{Made, Refused}
-use Rattle.body_controller.specs.declared.Outputs.{Outputs}
-use Rattle.body_controller.specs.declared.Refusal.the-variants.{TickLength}
+use Rattle.tick_parts.specs.declared.Outputs.{Outputs}
+use Rattle.tick_parts.specs.declared.Refusal.the-variants.{TickLength}
 use Rattle.body_controller.specs.declared.Turn.{Turn}
 use Rattle.body_controller.specs.declared.Turn.the-variants as Turns
-use Rattle.body_controller.specs.Refusal.{refusalNumber}
-use Rattle.body_controller.specs.Counts.{noCounts}
+use Rattle.tick_parts.specs.Refusal.{refusalNumber}
+use Rattle.tick_parts.specs.Counts.{noCounts}
+use Rattle.tick_parts.specs.Outputs.{noOutputs}
 
 -- ---- the start
-
--- the outputs of a new or reset controller
-unfoldable pub noOutputs : Outputs
-noOutputs = record { «body_twist_out» = zeros3; «body_accel_out» = zeros3; «body_accel_out_fric_comp» = zeros3; «wheel_vel_out» = zeros4; «wheel_torque_out» = zeros4 }
 
 -- 'as the Rust's new controller does, at sight's turn, all counts 0'
 unfoldable pub started : Choices → BodyController

@@ -7,12 +7,12 @@ use Rattle.body_controller.specs.declared.FinishInput.{FinishInput}
 use Rattle.body_controller.specs.declared.FinishAnswer.{FinishAnswer}
 use Rattle.body_controller.specs.declared.FinishAnswer.the-variants.{Accepted, Refused}
 use Rattle.body_controller.specs.declared.FinishResult.{FinishResult}
-use Rattle.body_controller.specs.declared.Outputs.{Outputs}
-use Rattle.body_controller.specs.declared.Refusal.the-variants.{OutOfTurn}
+use Rattle.tick_parts.specs.declared.Outputs.{Outputs}
+use Rattle.tick_parts.specs.declared.Refusal.the-variants.{OutOfTurn}
 use Rattle.body_controller.specs.declared.Steered.{Steered}
 use Rattle.body_controller.specs.declared.Turn.{Turn}
 use Rattle.body_controller.specs.declared.Turn.the-variants as Turns
-use Rattle.body_controller.specs.Refusal.{refusalNumber}
+use Rattle.tick_parts.specs.Refusal.{refusalNumber}
 
 -- what finish works out of steer's setpoints
 abbrev pub finishedFrom : Steered → FinishInput → FinishOutputs

@@ -1,6 +1,4 @@
 -- What the contracts of `body_controller` cite. Definitions only. Assumes nothing.
-pub mod Refusal
-pub mod Counts
 pub mod Turn
 pub mod Controller
 pub mod Reset

@@ -16,10 +16,10 @@ use Rattle.body_controller.specs.declared.PlanInput.{PlanInput}
 use Rattle.body_controller.specs.declared.PlanCallAnswer.{PlanCallAnswer}
 use Rattle.body_controller.specs.declared.PlanCallAnswer.the-variants.{Accepted, Refused}
 use Rattle.body_controller.specs.declared.PlanResult.{PlanResult}
-use Rattle.body_controller.specs.declared.Refusal.{Refusal}
-use Rattle.body_controller.specs.declared.Refusal.the-variants.{OutOfTurn, Mode, EstimatorFailed}
+use Rattle.tick_parts.specs.declared.Refusal.{Refusal}
+use Rattle.tick_parts.specs.declared.Refusal.the-variants.{OutOfTurn, Mode, EstimatorFailed}
 use Rattle.body_controller.specs.declared.Turn.the-variants as Turns
-use Rattle.body_controller.specs.Refusal.{refusalNumber}
+use Rattle.tick_parts.specs.Refusal.{refusalNumber}
 use Rattle.body_controller.specs.Controller.{inTurn}
 use Rattle.body_controller.specs.Turn.{isPlan}
 

@@ -6,7 +6,7 @@ use Rattle.maneuvers.specs.Memory.{emptyMemory}
 use Rattle.tracking.specs.declared.TrackingDivergenceState.the-variants.{Normal}
 use Rattle.body_controller.specs.declared.BodyController.{BodyController}
 use Rattle.body_controller.specs.declared.Turn.the-variants.{Sight}
-use Rattle.body_controller.specs.Controller.{noOutputs}
+use Rattle.tick_parts.specs.Outputs.{noOutputs}
 
 -- recovery's reset: 'wheels keep their disabled mark and the estimate stays'
 unfoldable pub contextReset : BodyController → BodyController

@@ -13,15 +13,15 @@ use Rattle.vision_gate.specs.Vision.{visionAfter}
 use Rattle.maneuvers.specs.declared.Memory.{Memory}
 use Rattle.maneuvers.specs.Memory.{emptyMemory}
 use Rattle.body_controller.specs.declared.BodyController.{BodyController}
-use Rattle.body_controller.specs.declared.Refusal.{Refusal}
-use Rattle.body_controller.specs.declared.Refusal.the-variants.{OutOfTurn, TickLimit}
+use Rattle.tick_parts.specs.declared.Refusal.{Refusal}
+use Rattle.tick_parts.specs.declared.Refusal.the-variants.{OutOfTurn, TickLimit}
 use Rattle.body_controller.specs.declared.SightInput.{SightInput}
 use Rattle.body_controller.specs.declared.SightAnswer.{SightAnswer}
 use Rattle.body_controller.specs.declared.SightAnswer.the-variants.{Accepted, Refused}
 use Rattle.body_controller.specs.declared.SightResult.{SightResult}
 use Rattle.body_controller.specs.declared.Turn.the-variants as Turns
-use Rattle.body_controller.specs.Refusal.{refusalNumber}
-use Rattle.body_controller.specs.Counts.{counted}
+use Rattle.tick_parts.specs.Refusal.{refusalNumber}
+use Rattle.tick_parts.specs.Counts.{counted}
 use Rattle.body_controller.specs.Turn.{isSight}
 
 -- 'sight after 16,777,216 ticks'

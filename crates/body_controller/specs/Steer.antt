@@ -19,8 +19,8 @@ use Rattle.tracking.specs.Recovery.{recovery}
 use Rattle.tracking.specs.Limits.{stopScaled, twistClamped}
 use Rattle.tracking.specs.Friction.{frictionTwist}
 use Rattle.body_controller.specs.declared.BodyController.{BodyController}
-use Rattle.body_controller.specs.declared.Refusal.{Refusal}
-use Rattle.body_controller.specs.declared.Refusal.the-variants.{OutOfTurn, PlannerFailed}
+use Rattle.tick_parts.specs.declared.Refusal.{Refusal}
+use Rattle.tick_parts.specs.declared.Refusal.the-variants.{OutOfTurn, PlannerFailed}
 use Rattle.body_controller.specs.declared.SteerInput.{SteerInput}
 use Rattle.body_controller.specs.declared.SteerAnswer.{SteerAnswer}
 use Rattle.body_controller.specs.declared.SteerAnswer.the-variants.{Accepted, Refused}
@@ -29,7 +29,7 @@ use Rattle.body_controller.specs.declared.Setpoints.{Setpoints}
 use Rattle.body_controller.specs.declared.Planned.{Planned}
 use Rattle.body_controller.specs.declared.Turn.{Turn}
 use Rattle.body_controller.specs.declared.Turn.the-variants as Turns
-use Rattle.body_controller.specs.Refusal.{refusalNumber}
+use Rattle.tick_parts.specs.Refusal.{refusalNumber}
 use Rattle.body_controller.specs.Controller.{inTurn}
 use Rattle.body_controller.specs.Reset.{contextReset}
 

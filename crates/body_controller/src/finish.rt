@@ -6,10 +6,10 @@ use crate::FinishAnswer;
 use crate::FinishInput;
 use crate::FinishResult;
 use crate::Finished;
-use crate::Outputs;
-use crate::Refusal;
 use crate::Steered;
 use crate::Turn;
+use tick_parts::Outputs;
+use tick_parts::Refusal;
 use tracking::outputs::finish_outputs;
 
 impl BodyController {

@@ -1,11 +1,8 @@
 // `BodyController` by value: a tick is the calls sight, plan, steer and finish, in this order, and
 // reset may come at any turn. Each call takes the controller and hands it back beside its answer.
 pub mod controller; // controller.rt: the controller, new, reset and its marks
-pub mod count; // count.rt: how often each outcome came
 pub mod finish; // finish.rt: outputs
-pub mod output; // output.rt: the five vectors that a tick gives
 pub mod plan; // plan.rt: the estimate and the decision
-pub mod refusals; // refusals.rt: document 01's numbers
 pub mod sight; // sight.rt: the gate
 pub mod steer; // steer.rt: tracking and recovery
 pub mod turns; // turns.rt: which call is next, and what it needs of the ones before
@@ -23,6 +20,9 @@ use maneuvers::PlanAnswer;
 use maneuvers::Sample;
 use pid::PidController3;
 use tick_length::TickLength;
+use tick_parts::Counts;
+use tick_parts::Outputs;
+use tick_parts::Refusal;
 use tracking::ManeuverSetpoints;
 use tracking::TrackingDivergenceState;
 use vision_gate::GateAction;
@@ -53,18 +53,6 @@ pub enum NewAnswer {
     Refused(Refusal),
 }
 
-// In document 01's order, Q to R, under its words for the outcomes.
-pub struct Counts {
-    pub quiet: u32,
-    pub gathered: u32,
-    pub complete: u32,
-    pub reseeded: u32,
-    pub taken: u32,
-    pub jump: u32,
-    pub first: u32,
-    pub refused: u32,
-}
-
 pub struct FinishInput {
     // Inverse inertia.
     pub i_inv: Matrix3,
@@ -91,14 +79,6 @@ pub struct FinishResult {
     pub controller: BodyController,
 }
 
-pub struct Outputs {
-    pub body_twist_out: Vector3f,
-    pub body_accel_out: Vector3f,
-    pub body_accel_out_fric_comp: Vector3f,
-    pub wheel_vel_out: Vector4f,
-    pub wheel_torque_out: Vector4f,
-}
-
 pub struct PlanInput {
     // The estimator's new estimate.
     pub state_estimate: Vector6f,
@@ -116,22 +96,6 @@ pub enum PlanCallAnswer {
 pub struct PlanResult {
     pub answer: PlanCallAnswer,
     pub controller: BodyController,
-}
-
-// Document 01, 'When a call is turned away', in its order.
-pub enum Refusal {
-    // 1: k not 1..64
-    TickLength,
-    // 2: call out of turn
-    OutOfTurn,
-    // 3: sight after 16,777,216 ticks
-    TickLimit,
-    // 4: mode not 0..3
-    Mode,
-    // 11
-    EstimatorFailed,
-    // 12
-    PlannerFailed,
 }
 
 pub struct SightInput {

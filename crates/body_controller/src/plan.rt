@@ -8,12 +8,12 @@ use crate::PlanCallAnswer;
 use crate::PlanInput;
 use crate::PlanResult;
 use crate::Planned;
-use crate::Refusal;
 use crate::Turn;
 use maneuvers::CommandAnswer;
 use maneuvers::ManeuverCommand;
 use maneuvers::PlanAnswer;
 use maneuvers::plan::decide;
+use tick_parts::Refusal;
 
 // Without vision the wheels are disabled.
 fn disables_wheels(answer: PlanAnswer) -> bool

@@ -4,7 +4,6 @@ ghost use Rattle.body_controller.specs.Sight.{memoryAfter, pidAfter, sig
 use crate::BodyController;
 use crate::Measurement;
 use crate::Phase;
-use crate::Refusal;
 use crate::SightAnswer;
 use crate::SightInput;
 use crate::SightResult;
@@ -12,6 +11,7 @@ use crate::Sighted;
 use crate::Turn;
 use maneuvers::Memory;
 use pid::PidController3;
+use tick_parts::Refusal;
 use vision_gate::GateAction;
 use vision_gate::prediction::predict_after;
 

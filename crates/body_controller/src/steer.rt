@@ -1,11 +1,10 @@
 // Steer, the tick's third call: setpoints that track the plan, recovery, stop and the twist's limits.
 ghost use mathlib.Core.Path.{_≡_};
 ghost use Rattle.body_controller.specs.Steer.{heldState, needsPlan, heldOr, tracked, followed, recovered, limited, steered, plannerFailed, steerRefused, steerWith, steerOf, steerNumber, steerRefusal};
-ghost use Rattle.body_controller.specs.declared.Refusal.the-variants.{OutOfTurn};
+ghost use Rattle.tick_parts.specs.declared.Refusal.the-variants.{OutOfTurn};
 use crate::BodyController;
 use crate::Phase;
 use crate::Planned;
-use crate::Refusal;
 use crate::Setpoints;
 use crate::SteerAnswer;
 use crate::SteerInput;
@@ -18,6 +17,7 @@ use maneuvers::ManeuverCommand;
 use maneuvers::Memory;
 use maneuvers::PlanAnswer;
 use maneuvers::Sample;
+use tick_parts::Refusal;
 use tracking::HeldState;
 use tracking::ManeuverSetpoints;
 use tracking::friction::friction_twist;

@@ -10,7 +10,7 @@ use Rattle.tracking.specs.Recovery.{isRecovering}
 use Rattle.body_controller.specs.declared.BodyController.{BodyController}
 use Rattle.body_controller.specs.declared.NewAnswer.{NewAnswer}
 use Rattle.body_controller.specs.declared.NewAnswer.the-variants as New
-use Rattle.body_controller.specs.declared.Counts.{Counts}
+use Rattle.tick_parts.specs.declared.Counts.{Counts}
 use Rattle.body_controller.specs.declared.FinishInput.{FinishInput}
 use Rattle.body_controller.specs.declared.FinishAnswer.{FinishAnswer}
 use Rattle.body_controller.specs.declared.FinishAnswer.the-variants as Finishes
@@ -21,8 +21,8 @@ use Rattle.body_controller.specs.declared.SightAnswer.the-variants as Sights
 use Rattle.body_controller.specs.declared.SteerInput.{SteerInput}
 use Rattle.body_controller.specs.declared.SteerAnswer.{SteerAnswer}
 use Rattle.body_controller.specs.declared.SteerAnswer.the-variants as Steers
-use Rattle.body_controller.specs.Refusal.{refusalNumber}
-use Rattle.body_controller.specs.Counts.{noCounts}
+use Rattle.tick_parts.specs.Refusal.{refusalNumber}
+use Rattle.tick_parts.specs.Counts.{noCounts}
 use Rattle.body_controller.specs.Controller.{newOf}
 use Rattle.body_controller.specs.Sight.{sightOf}
 use Rattle.body_controller.specs.Plan.{planOf}

@@ -2,7 +2,6 @@
 ghost use mathlib.Core.Path.{_≡_};
 ghost use Rattle.drive_pass.specs.Pass.{nextNumber, countsOf, refusedBy, endedBy, finished, steered, planned, ticked, first, wentOn, taken, driven};
 use body_controller::BodyController;
-use body_controller::Counts;
 use body_controller::FinishAnswer;
 use body_controller::FinishInput;
 use body_controller::NewAnswer;
@@ -18,6 +17,7 @@ use line_text::TickLine;
 use tick_block::BlockAnswer;
 use tick_block::TickBlock;
 use tick_block::read;
+use tick_parts::Counts;
 
 // Before its first accepted block, a pass has no controller: that block's k makes it.
 pub enum Pass {

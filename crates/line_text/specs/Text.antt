@@ -6,7 +6,7 @@ use lib.Dec.{ltb}
 use lib.Ieee.{Float, binary32, toBits}
 use Rattle.io.specs.Digits.{digits}
 use Rattle.linear.specs.declared.Vector4f.{Vector4f}
-use Rattle.body_controller.specs.declared.Counts.{Counts}
+use Rattle.tick_parts.specs.declared.Counts.{Counts}
 use Rattle.line_text.specs.declared.Ending.{Ending}
 use Rattle.line_text.specs.declared.Ending.the-variants.{Wheels, Failed}
 use Rattle.line_text.specs.declared.TickLine.{TickLine}

@@ -10,13 +10,13 @@ ghost use lib.ListN.{length, drop};
 ghost use Rattle.io.specs.Counts.{Counts as Within};
 ghost use Rattle.line_text.specs.Puts.{Puts};
 ghost use Rattle.line_text.specs.Text.{endingText, failedText, lineText, refusedText, tickText, totalsText, wheelsText};
-use body_controller::Counts;
 use linear::Vector4f;
 use put::put_byte;
 use put::put_decimal;
 use put::put_field;
 use put::put_number;
 use put::put_wheel;
+use tick_parts::Counts;
 
 // How many bytes hold any line.
 pub const LINE: usize = 128;

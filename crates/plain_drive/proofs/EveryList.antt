@@ -25,9 +25,9 @@ use Rattle.body_controller.specs.declared.Choices.{Choices}
 use Rattle.body_controller.specs.declared.NewAnswer.the-variants as New
 use Rattle.body_controller.specs.declared.SightInput.{SightInput}
 use Rattle.body_controller.specs.declared.SightResult.{SightResult}
-use Rattle.body_controller.specs.declared.Refusal.the-variants.{OutOfTurn, TickLimit}
+use Rattle.tick_parts.specs.declared.Refusal.the-variants.{OutOfTurn, TickLimit}
 use Rattle.body_controller.specs.Turn.{isSight}
-use Rattle.body_controller.specs.Counts.{noCounts, countList}
+use Rattle.tick_parts.specs.Counts.{noCounts, countList}
 use Rattle.body_controller.specs.Controller.{started, madeFrom, newOf, newNumber}
 use Rattle.body_controller.specs.Reset.{resetOf}
 use Rattle.body_controller.specs.Sight.{tickLimit, visionSeen, sighted, sightRefused, sightOf}

@@ -23,7 +23,7 @@ use Rattle.maneuvers.specs.Command.{commandFrom}
 use Rattle.maneuvers.specs.Memory.{emptyMemory, trajectoryDropped, afterTracking}
 use Rattle.tracking.specs.Recovery.{recovery}
 use Rattle.body_controller.specs.declared.BodyController.{BodyController}
-use Rattle.body_controller.specs.declared.Counts.{Counts}
+use Rattle.tick_parts.specs.declared.Counts.{Counts}
 use Rattle.body_controller.specs.declared.SightInput.{SightInput}
 use Rattle.body_controller.specs.declared.PlanInput.{PlanInput}
 use Rattle.body_controller.specs.declared.SteerInput.{SteerInput}
@@ -33,7 +33,7 @@ use Rattle.body_controller.specs.declared.Planned.{Planned}
 use Rattle.body_controller.specs.declared.Steered.{Steered}
 use Rattle.body_controller.specs.declared.Turn.{Turn}
 use Rattle.body_controller.specs.declared.Turn.the-variants as Turns
-use Rattle.body_controller.specs.Counts.{counted, countList}
+use Rattle.tick_parts.specs.Counts.{counted, countList}
 use Rattle.body_controller.specs.Controller.{inTurn}
 use Rattle.body_controller.specs.Reset.{contextReset, resetOf}
 use Rattle.body_controller.specs.Sight.{tickLimit, memoryAfter, visionSeen, sighted, sightOf}

@@ -28,8 +28,8 @@ use Rattle.body_controller.specs.declared.FinishAnswer.the-variants as Finishes
 use Rattle.body_controller.specs.declared.FinishResult.{FinishResult}
 use Rattle.body_controller.specs.declared.Turn.{Turn}
 use Rattle.body_controller.specs.declared.Turn.the-variants as Turns
-use Rattle.body_controller.specs.Refusal.{refusalNumber}
-use Rattle.body_controller.specs.Counts.{countList}
+use Rattle.tick_parts.specs.Refusal.{refusalNumber}
+use Rattle.tick_parts.specs.Counts.{countList}
 use Rattle.body_controller.specs.Controller.{newOf}
 use Rattle.body_controller.specs.Reset.{resetOf}
 use Rattle.body_controller.specs.Sight.{sightOf}

@@ -16,7 +16,7 @@ use Rattle.body_controller.specs.declared.SightAnswer.the-variants as Sights
 use Rattle.body_controller.specs.declared.SteerInput.{SteerInput}
 use Rattle.body_controller.specs.declared.SteerAnswer.{SteerAnswer}
 use Rattle.body_controller.specs.declared.SteerAnswer.the-variants as Steers
-use Rattle.body_controller.specs.Counts.{noCounts, countList}
+use Rattle.tick_parts.specs.Counts.{noCounts, countList}
 use Rattle.body_controller.specs.Controller.{started, newOf}
 use Rattle.body_controller.specs.Sight.{sightOf}
 use Rattle.body_controller.specs.Plan.{planOf}

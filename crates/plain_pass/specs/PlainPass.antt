@@ -12,7 +12,7 @@ use Rattle.tracking.specs.Recovery.{isRecovering}
 use Rattle.body_controller.specs.declared.FinishInput.{FinishInput}
 use Rattle.body_controller.specs.declared.PlanInput.{PlanInput}
 use Rattle.body_controller.specs.declared.SteerInput.{SteerInput}
-use Rattle.body_controller.specs.Counts.{countList}
+use Rattle.tick_parts.specs.Counts.{countList}
 use Rattle.plain_drive.specs.Calls.{Call, sight, plan, steer, finish, Reply, outcome, answer, accepted, refused}
 use Rattle.plain_drive.specs.PlainDrive as Plain
 use Rattle.plain_drive.specs.EveryList.{Entry, callsOf, Holds}
