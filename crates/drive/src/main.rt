@@ -21,13 +21,13 @@ fn drive_some(pass: Pass) -> Turn {
     let mut buf = io::large_buffer();
     let mut out = io::large_buffer();
     let n = io::read_full(STDIN_FILENO, &mut buf);
-    let b = drive_batch(pass, &buf[..n], &mut out);
-    let next = b.pass;
-    let len = b.len;
+    let w = drive_batch(pass, &buf[..n], &mut out);
+    let next = w.pass;
+    let len = w.len;
     let wrote = io::write_all(STDOUT_FILENO, &out[..len]);
     Turn {
         pass: next,
-        over: b.over | !wrote | (n < 65536),
+        over: w.refused | !wrote | (n < 65536),
     }
 }
 

@@ -9,21 +9,21 @@ use lib.Seq.{take-append-seam, drop-append-seam, drop-append-add, drop-drop}
 use Rattle.io.specs.Counts.{Counts}
 use Rattle.io.proofs.Counting.{counts}
 use Rattle.drive_pass.specs.declared.Pass.{Pass}
-use Rattle.drive_text.specs.declared.Batch.{Batch}
+use Rattle.drive_text.specs.declared.Written.{Written}
 use Rattle.drive_text.specs.Written.{written, blockText}
 use Rattle.drive_text.specs.Batch.{firstBlock, Batched, nothing, oneBlock, then, batchOf, textOf, answerOf, nextOf}
 use Rattle.drive_text.proofs.Batches.{one-more, stays, stays-over, textOf-append}
 
 -- answer and text are those of the batch of i blocks; the bytes from start on are left
-pub record Going (p : Pass) (bytes out₀ : List ℕ) (i start : ℕ) (b : Batch) (out : List ℕ) : Type 0 where
-  pub answer : b ≡ answerOf (batchOf i p bytes)
-  pub text : out ≡ textOf (batchOf i p bytes .lines) ++ drop (b .len) out₀
+pub record Going (p : Pass) (bytes out₀ : List ℕ) (i start : ℕ) (w : Written) (out : List ℕ) : Type 0 where
+  pub answer : w ≡ answerOf (batchOf i p bytes)
+  pub text : out ≡ textOf (batchOf i p bytes .lines) ++ drop (w .len) out₀
   pub left : drop start bytes ≡ drop (i * 512) bytes
   pub within : start ≤ length bytes
-  pub small : b .len ≤ i * 128
+  pub small : w .len ≤ i * 128
   pub same : length out ≡ length out₀
 
-pub begin : (p : Pass) (bytes out : List ℕ) → Going p bytes out 0 0 (record { pass = p; len = 0; over = false }) out
+pub begin : (p : Pass) (bytes out : List ℕ) → Going p bytes out 0 0 (record { pass = p; len = 0; refused = false }) out
 unfolding batchOf answerOf textOf
 begin p bytes out = record { answer = refl; text = refl; left = refl; within = omega arith; small = omega arith; same = refl }
 
@@ -57,20 +57,20 @@ module _ (t : Batched) (block out out₀ : List ℕ) (o : t .over ≡ false) whe
       let n = length (blockText (t .pass) block) in
       rw (text-more, e, take-append-seam s (drop (length s) out₀), drop-append-add s (drop (length s) out₀) n, drop-drop n (length s) out₀) refl
 
-module _ (p : Pass) (bytes out₀ out : List ℕ) (i start end : ℕ) (b : Batch) (g : Going p bytes out₀ i start b out) where
+module _ (p : Pass) (bytes out₀ out : List ℕ) (i start end : ℕ) (w : Written) (g : Going p bytes out₀ i start w out) where
   -- the batch so far is over where the answer says so
-  pub over-is : (o : Bool) → b .over ≡ o → batchOf i p bytes .over ≡ o
+  pub over-is : (o : Bool) → w .refused ≡ o → batchOf i p bytes .over ≡ o
   unfolding answerOf
-  over-is o e = sym (ap (λ (a : Batch). a .over) (g .answer)) ∙ e
+  over-is o e = sym (ap (λ (a : Written). a .refused) (g .answer)) ∙ e
 
   ahead : length (drop start bytes) ≡ length bytes - start
   ahead = length-drop start bytes
 
-  pub turn : (r : Batch) (after : List ℕ) → b .over ≡ false → start < length bytes → end ≡ start + min 512 (length bytes - start) → end ≤ length bytes
-      → r ≡ nextOf b (take (end - start) (drop start bytes))
-      → after ≡ take (b .len) out ++ blockText (b .pass) (take (end - start) (drop start bytes)) ++ drop (r .len) out
-      → r .len ≤ b .len + 128 → length after ≡ length out → Going p bytes out₀ (i + 1) end r after
-  turn r after o h e w a u s l =
+  pub turn : (r : Written) (after : List ℕ) → w .refused ≡ false → start < length bytes → end ≡ start + min 512 (length bytes - start) → end ≤ length bytes
+      → r ≡ nextOf w (take (end - start) (drop start bytes))
+      → after ≡ take (w .len) out ++ blockText (w .pass) (take (end - start) (drop start bytes)) ++ drop (r .len) out
+      → r .len ≤ w .len + 128 → length after ≡ length out → Going p bytes out₀ (i + 1) end r after
+  turn r after o h e k a u s l =
       let t = batchOf i p bytes in
       let n : end - start ≡ min 512 (length (drop start bytes)) = rw ahead (omega (arith, e)) in
       let block : take (end - start) (drop start bytes) ≡ firstBlock (drop (i * 512) bytes) = rw n (cut-take (drop start bytes)) ∙ ap firstBlock (g .left) in
@@ -83,7 +83,7 @@ module _ (p : Pass) (bytes out₀ out : List ℕ) (i start end : ℕ) (b : Batch
         answer = answer;
         text = u ∙ rw (a, block, g .answer, more) (out-more t (firstBlock (drop (i * 512) bytes)) out out₀ going (g .text ∙ rw (g .answer) refl));
         left = rw (e, ← ahead, ← drop-drop, cut-drop, g .left, drop-drop, next) refl;
-        within = w;
+        within = k;
         small = omega arith;
         same = l ∙ g .same;
       }
@@ -91,13 +91,13 @@ module _ (p : Pass) (bytes out₀ out : List ℕ) (i start end : ℕ) (b : Batch
   -- ---- the end, where there is room for n blocks
 
   pub ended : (n : ℕ) → i * 128 ≤ length out₀ → batchOf n p bytes ≡ batchOf i p bytes
-      → (b ≡ answerOf (batchOf n p bytes)) × ((out ≡ textOf (batchOf n p bytes .lines) ++ drop (b .len) out₀) × Counts (b .len) out)
+      → (w ≡ answerOf (batchOf n p bytes)) × ((out ≡ textOf (batchOf n p bytes .lines) ++ drop (w .len) out₀) × Counts (w .len) out)
   ended n h e =
-      let fits : b .len ≤ length out = omega arith in
+      let fits : w .len ≤ length out = omega arith in
       rw e (g .answer, (g .text, counts _ _ fits))
 
   -- a refusal, or no bytes left
-  pub refused : (n : ℕ) → i ≤ n → b .over ≡ true → batchOf n p bytes ≡ batchOf i p bytes
+  pub refused : (n : ℕ) → i ≤ n → w .refused ≡ true → batchOf n p bytes ≡ batchOf i p bytes
   refused n h o =
       let e : n ≡ i + (n - i) = omega arith in
       ap (λ (k : ℕ). batchOf k p bytes) e ∙ stays-over i (n - i) p bytes (over-is true o)

@@ -7,7 +7,7 @@ use Rattle.line_text.specs.declared.Line.{Line}
 use Rattle.line_text.specs.Text.{lineText}
 use Rattle.drive_pass.specs.declared.Pass.{Pass}
 use Rattle.drive_pass.specs.Pass.{driven}
-use Rattle.drive_text.specs.declared.Batch.{Batch}
+use Rattle.drive_text.specs.declared.Written.{Written}
 use Rattle.drive_text.specs.Written.{isRefused, written}
 
 -- the first block of the bytes, shorter than 512 where they are, and what stands behind it
@@ -56,9 +56,9 @@ unfoldable pub batchInto : List ℕ → Pass → List ℕ → Batched
 batchInto out p bytes = batchOf (length out / 128) p bytes
 
 -- the pass, the length of the text, and whether a refusal ended the reading
-unfoldable pub answerOf : Batched → Batch
-answerOf t = record { pass = t .pass; len = length (textOf (t .lines)); over = t .over }
+unfoldable pub answerOf : Batched → Written
+answerOf t = record { pass = t .pass; len = length (textOf (t .lines)); refused = t .over }
 
 -- one block more
-unfoldable pub nextOf : Batch → List ℕ → Batch
-nextOf b block = record { pass = written (b .pass) block .pass; len = b .len + written (b .pass) block .len; over = written (b .pass) block .refused }
+unfoldable pub nextOf : Written → List ℕ → Written
+nextOf w block = record { pass = written (w .pass) block .pass; len = w .len + written (w .pass) block .len; refused = written (w .pass) block .refused }

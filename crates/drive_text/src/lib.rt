@@ -14,8 +14,8 @@ use line_text::Line;
 use line_text::write_line;
 use line_text::write_totals;
 
-// The pass after a block, how long the block's line is, and whether the block was refused, which
-// ends the reading.
+// The pass after a block or several, how many bytes of text they gave, and whether one was refused,
+// which ends the reading.
 pub struct Written {
     pub pass: Pass,
     pub len: usize,
@@ -49,14 +49,6 @@ pub fn drive_block(pass: Pass, block: &[u8], buf: &mut [u8; 128]) -> Written
     }
 }
 
-// The pass after several blocks, how many bytes of text they gave, and whether a refusal ended the
-// reading.
-pub struct Batch {
-    pub pass: Pass,
-    pub len: usize,
-    pub over: bool,
-}
-
 // Puts a line behind the at bytes that are there; what stands behind it stays.
 fn append(out: &mut [u8], at: usize, line: &[u8])
     requires { ⌜ at + length (now line) ≤ length (now out) ⌝ }
@@ -65,25 +57,21 @@ fn append(out: &mut [u8], at: usize, line: &[u8])
     bytes::copy(line, &mut out[at..]);
 }
 
-// Drives one block more, its line behind those that are there.
-fn drive_next(b: Batch, block: &[u8], out: &mut [u8]) -> Batch
-    requires { ⌜ b .len + 128 ≤ length (now out) ⌝ }
-    ensures { λ r. ⌜ r ≡ nextOf b (now (block .entry)) ⌝ }
-    ensures { λ r. ⌜ now (out .exit) ≡ take (b .len) (now (out .entry)) ++ blockText (b .pass) (now (block .entry)) ++ drop (r .len) (now (out .entry)) ⌝ }
-    ensures { λ r. ⌜ r .len ≤ b .len + 128 ⌝ }
+// Drives one block more, its line behind the text that is there.
+fn drive_next(done: Written, block: &[u8], out: &mut [u8]) -> Written
+    requires { ⌜ done .len + 128 ≤ length (now out) ⌝ }
+    ensures { λ r. ⌜ r ≡ nextOf done (now (block .entry)) ⌝ }
+    ensures { λ r. ⌜ now (out .exit) ≡ take (done .len) (now (out .entry)) ++ blockText (done .pass) (now (block .entry)) ++ drop (r .len) (now (out .entry)) ⌝ }
+    ensures { λ r. ⌜ r .len ≤ done .len + 128 ⌝ }
 {
-    let at = b.len;
-    let pass = b.pass;
+    let at = done.len;
+    let pass = done.pass;
     let mut line = [0; 128];
-    let w = drive_block(pass, block, &mut line);
+    let mut w = drive_block(pass, block, &mut line);
     let len = w.len;
-    let next = w.pass;
     append(out, at, &line[..len]);
-    Batch {
-        pass: next,
-        len: at + len,
-        over: w.refused,
-    }
+    w.len = at + len;
+    w
 }
 
 // Where the block from start on ends; the last one may be short.
@@ -96,32 +84,32 @@ fn block_end(start: usize, len: usize) -> usize
 
 // Drives blocks of 512 bytes to their end or to the first refusal, as many as `out` has room for at
 // 128 bytes a line, and puts their text at the start of out; what stands behind it stays.
-pub fn drive_batch(pass: Pass, blocks: &[u8], out: &mut [u8]) -> Batch
+pub fn drive_batch(pass: Pass, blocks: &[u8], out: &mut [u8]) -> Written
     ensures { λ r. ⌜ r ≡ answerOf (batchInto (now (out .entry)) pass (now (blocks .entry))) ⌝ }
     ensures { λ r. ⌜ now (out .exit) ≡ textOf (batchInto (now (out .entry)) pass (now (blocks .entry)) .lines) ++ drop (r .len) (now (out .entry)) ⌝ }
     ensures { λ r. ⌜ Within (r .len) (now (out .exit)) ⌝ }
 {
     let room = out.len() / 128;
-    let mut b = Batch {
+    let mut w = Written {
         pass,
         len: 0,
-        over: false,
+        refused: false,
     };
     let mut i: usize = 0;
     let mut start: usize = 0;
     while i < room {
-        if b.over {
-            return b;
+        if w.refused {
+            return w;
         }
         if blocks.len() <= start {
-            return b;
+            return w;
         }
         let end = block_end(start, blocks.len());
-        b = drive_next(b, &blocks[start..end], out);
+        w = drive_next(w, &blocks[start..end], out);
         start = end;
         i = i + 1;
     }
-    b
+    w
 }
 
 // Puts the last line at the start of buf: ticks, and the counts in the order Q to R.

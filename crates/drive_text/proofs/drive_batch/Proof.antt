@@ -10,10 +10,10 @@ use Rattle.drive_text.proofs.drive_batch.Statement.{statement}
 use Rattle.drive_text.proofs.drive_batch.Tie as tie
 
 abbrev Inv-loop : tie.InvT-loop
-Inv-loop blocks out₀ room b₀ i₀ start₀ out b i start = (i ≤ room) × Going (b₀ .pass) blocks out₀ i start b out
+Inv-loop blocks out₀ room w₀ i₀ start₀ out w i start = (i ≤ room) × Going (w₀ .pass) blocks out₀ i start w out
 
 abbrev μ-loop : tie.MeasureT-loop
-μ-loop blocks out₀ room b₀ i₀ start₀ out b i start = room - i
+μ-loop blocks out₀ room w₀ i₀ start₀ out w i start = room - i
 
 loop-holds : tie.Need-loop-holds Inv-loop μ-loop
 loop-holds c = (omega arith, begin _ _ _)

@@ -5,7 +5,6 @@ use mathlib.Core.List.{List, _++_}
 use native.Mathlib.Omega.{arith}
 use lib.ListN.{length, take, drop}
 use lib.Seq.{take-at}
-use Rattle.drive_text.specs.declared.Batch.{Batch}
 use Rattle.drive_text.specs.declared.Written.{Written}
 use Rattle.drive_text.specs.Written.{written, blockText}
 use Rattle.drive_text.specs.Batch.{nextOf}
@@ -32,8 +31,8 @@ slice-aggregate-append c = search needs
 append-requires : tie.Need-append-requires
 append-requires c κs = search needs
 
-add-t16 : tie.Need-add-t16
-add-t16 c = search needs
+add-w : tie.Need-add-w
+add-w c = search needs
 
 same-length : tie.Need-same-length
 same-length c = search needs
@@ -43,9 +42,9 @@ unfolding nextOf written
 returns c =
     let start = c .before .before .before .before .before .before .before .before .before in
     let d = c .before .before .before .before .before .drive-block .ensures in
-    let text = blockText (start .args .b .pass) (start .args .block .now) in (
-      ap (λ (w : Written). record { pass = w .pass; len = start .args .b .len + w .len; over = w .refused }) (d .0),
-      (line-placed (start .args .out .now) _ _ text _ (start .args .b .len) _ (ap (λ (w : Written). w .len) (d .0)) (d .1 .0) (c .before .before .append .ensures), omega (arith, d .1 .1 .0)),
+    let text = blockText (start .args .done .pass) (start .args .block .now) in (
+      ap (λ (w : Written). record { pass = w .pass; len = start .args .done .len + w .len; refused = w .refused }) (d .0),
+      (line-placed (start .args .out .now) _ _ text _ (start .args .done .len) _ (ap (λ (w : Written). w .len) (d .0)) (d .1 .0) (c .before .before .append .ensures), omega (arith, d .1 .1 .0)),
     )
 
 pub drive-next-spec : {M : Type 1} → statement M
@@ -56,6 +55,6 @@ drive-next-spec =
     array-share-prefix-line
     slice-aggregate-append
     append-requires
-    add-t16
+    add-w
     same-length
     returns)
