@@ -3,11 +3,11 @@
 use Prim.Native.Nat.{ℕ, zero, suc, _+_, _*_, _-_, _≤_, _<_}
 use mathlib.Core.Path.{_≡_, refl, sym, ap, _∙_}
 use mathlib.Core.Bool.{Bool, true, false, cond}
-use mathlib.Core.List.{List, [], _∷_, _++_, append-assoc, append-nil, reverseAux}
+use mathlib.Core.List.{List, [], _∷_, _++_, append-assoc, append-nil, reverseAux, flatten}
 use native.Mathlib.Nat.{zero-add, suc-add, add-comm, not-suc-le-zero}
 use native.Mathlib.Omega.{arith}
 use lib.ListN.{length, take, drop, length-append, length-drop, drop-of-length-le}
-use lib.Seq.{drop-nil, drop-drop, drop-at, take-append-le, drop-append-le}
+use lib.Seq.{take-nil, take-all, take-add, drop-nil, drop-drop, drop-at, take-append-le, drop-append-le}
 use Rattle.line_text.specs.declared.Line.{Line}
 use Rattle.line_text.specs.Text.{lineText}
 use Rattle.drive_pass.specs.declared.Pass.{Pass}
@@ -17,7 +17,7 @@ use Rattle.drive_pass.specs.PlainPass.{Passed}
 use Rattle.drive_pass.proofs.EveryPass.{every-pass}
 use Rattle.drive_text.specs.Written.{isRefused}
 use Rattle.drive_text.specs.Batch.{firstBlock, behindFirst, Batched, nothing, oneBlock, then, batchOf, wholeOf, textOf}
-use Rattle.drive_text.specs.BatchLaws.{RoomIsEnough, BatchesJoin, TextsJoin, BatchHolds}
+use Rattle.drive_text.specs.BatchLaws.{RoomIsEnough, BatchesJoin, TextsJoin, NoByteLost, BatchHolds}
 
 -- ---- one behind the other
 
@@ -130,6 +130,37 @@ texts-join n p a b e o = sym (textOf-append _ _) ∙ ap (λ (t : Batched). textO
   where
     going : record { blocks = wholeOf p a .blocks ++ wholeOf (wholeOf p a .pass) b .blocks; lines = wholeOf p a .lines ++ wholeOf (wholeOf p a .pass) b .lines; pass = wholeOf (wholeOf p a .pass) b .pass; over = wholeOf (wholeOf p a .pass) b .over } ≡ then (wholeOf p a) (wholeOf (wholeOf p a .pass) b)
     going = rw o
+
+-- ---- the bytes
+
+-- a block that was not refused, and what follows it
+flatten-on : (p : Pass) (block others : List ℕ) (rest : Batched) → (rest .over ≡ false → flatten (rest .blocks) ≡ others)
+    → then (oneBlock p block) rest .over ≡ false → flatten (then (oneBlock p block) rest .blocks) ≡ block ++ others
+flatten-on p block others rest k = go (isRefused (driven p block .line)) refl
+  where
+    go : (o : Bool) → isRefused (driven p block .line) ≡ o
+        → (let t : Batched = cond o (oneBlock p block) (record { blocks = block ∷ rest .blocks; lines = driven p block .line ∷ rest .lines; pass = rest .pass; over = rest .over }) in
+        t .over ≡ false → flatten (t .blocks) ≡ block ++ others)
+    go true e f = let z : true ≡ false = sym e ∙ f in cc
+    go false e f = unfold flatten in ap (λ (l : List ℕ). block ++ l) (k f)
+
+front : (n : ℕ) (bytes : List ℕ) → firstBlock bytes ++ take (n * 512) (behindFirst bytes) ≡ take (suc n * 512) bytes
+unfolding firstBlock behindFirst
+front n bytes = let e : 512 + n * 512 ≡ suc n * 512 = omega arith in sym (take-add 512 (n * 512) bytes) ∙ ap (λ (k : ℕ). take k bytes) e
+
+all-driven : (n : ℕ) (p : Pass) (bytes : List ℕ) → batchOf n p bytes .over ≡ false → flatten (batchOf n p bytes .blocks) ≡ take (n * 512) bytes
+unfolding batchOf flatten
+all-driven zero p bytes f = refl
+all-driven (suc n) p [] f = sym (take-nil (suc n * 512))
+all-driven (suc n) p (b ∷ bytes) f =
+    let l : List ℕ = b ∷ bytes in
+    flatten-on p (firstBlock l) (take (n * 512) (behindFirst l)) _ (all-driven n (driven p (firstBlock l) .pass) (behindFirst l)) f ∙ front n l
+
+pub no-byte-lost : NoByteLost
+unfolding wholeOf
+no-byte-lost p bytes f =
+    let all : length bytes ≤ length bytes * 512 = omega arith in
+    all-driven (length bytes) p bytes f ∙ take-all (length bytes * 512) bytes all
 
 -- ---- the pass theorem
 

@@ -1,9 +1,9 @@
--- What is shown of batches: driven one after the other they are one run over all the bytes, and their lines are those of the pass theorem. Proved
--- in proofs/Batches.antt. Assumes nothing.
+-- What is shown of batches: driven one after the other they are one run over all the bytes, no byte is passed over, and the pass theorem holds of
+-- their lines. Proved in proofs/Batches.antt. Assumes nothing.
 use Prim.Native.Nat.{ℕ, _*_, _≤_}
 use mathlib.Core.Path.{_≡_}
 use mathlib.Core.Bool.{false}
-use mathlib.Core.List.{List, _++_, reverse}
+use mathlib.Core.List.{List, _++_, reverse, flatten}
 use lib.ListN.{length}
 use Rattle.drive_pass.specs.declared.Pass.{Pass}
 use Rattle.drive_pass.specs.declared.Pass.the-variants.{Empty}
@@ -23,6 +23,10 @@ abbrev pub TextsJoin : Type 0
 TextsJoin =
     (n : ℕ) (p : Pass) (a b : List ℕ) → length a ≡ n * 512 → wholeOf p a .over ≡ false
     → textOf (wholeOf p a .lines) ++ textOf (wholeOf (wholeOf p a .pass) b .lines) ≡ textOf (wholeOf p (a ++ b) .lines)
+
+-- where none was refused, the blocks that were driven, one behind the other, are all of the bytes
+abbrev pub NoByteLost : Type 0
+NoByteLost = (p : Pass) (bytes : List ℕ) → wholeOf p bytes .over ≡ false → flatten (wholeOf p bytes .blocks) ≡ bytes
 
 -- the pass theorem holds of the blocks that a batch drove, of its lines and of its pass
 abbrev pub BatchHolds : Type 0
