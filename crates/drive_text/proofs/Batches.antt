@@ -1,6 +1,5 @@
--- What `specs/BatchLaws.antt` states of batches: driven one after the other they are one run, and the pass theorem holds of their lines. Assumes
--- nothing.
-use Prim.Native.Nat.{ℕ, zero, suc, _+_, _*_, _-_, _≤_, _<_}
+-- What `specs/BatchLaws.antt` states of batches, and two laws for the loop that drives one (`stays`, `one-more`). Assumes nothing.
+use Prim.Native.Nat.{ℕ, zero, suc, _+_, _*_, _≤_, _<_}
 use mathlib.Core.Path.{_≡_, refl, sym, ap, _∙_}
 use mathlib.Core.Bool.{Bool, true, false, cond}
 use mathlib.Core.List.{List, [], _∷_, _++_, append-assoc, append-nil, reverseAux, flatten}
@@ -125,11 +124,14 @@ unfolding textOf
 textOf-append [] b = refl
 textOf-append (l ∷ ls) b = ap (λ (t : List ℕ). lineText l ++ t) (textOf-append ls b) ∙ sym (append-assoc (lineText l) (textOf ls) (textOf b))
 
+then-lines : (t rest : Batched) → t .over ≡ false → then t rest .lines ≡ t .lines ++ rest .lines
+then-lines t rest o = rw o refl
+
 pub texts-join : TextsJoin
-texts-join n p a b e o = sym (textOf-append _ _) ∙ ap (λ (t : Batched). textOf (t .lines)) (going ∙ batches-join n p a b e)
-  where
-    going : record { blocks = wholeOf p a .blocks ++ wholeOf (wholeOf p a .pass) b .blocks; lines = wholeOf p a .lines ++ wholeOf (wholeOf p a .pass) b .lines; pass = wholeOf (wholeOf p a .pass) b .pass; over = wholeOf (wholeOf p a .pass) b .over } ≡ then (wholeOf p a) (wholeOf (wholeOf p a .pass) b)
-    going = rw o
+texts-join n p a b e o =
+    let t = wholeOf p a in
+    let rest = wholeOf (t .pass) b in
+    sym (textOf-append (t .lines) (rest .lines)) ∙ ap textOf (sym (then-lines t rest o) ∙ ap (λ (u : Batched). u .lines) (batches-join n p a b e))
 
 -- ---- the bytes
 

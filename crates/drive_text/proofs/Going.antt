@@ -1,8 +1,8 @@
 -- What holds at each turn of the loop of `drive_batch`: i blocks are driven, and their text is in place. Assumes nothing.
-use Prim.Native.Nat.{ℕ, zero, suc, _+_, _*_, _-_, _/_, _≤_, _<_, min}
+use Prim.Native.Nat.{ℕ, _+_, _*_, _-_, _≤_, _<_, min}
 use mathlib.Core.Path.{_≡_, refl, sym, ap, _∙_}
 use mathlib.Core.Bool.{Bool, true, false}
-use mathlib.Core.List.{List, [], _∷_, _++_, append-assoc, append-nil}
+use mathlib.Core.List.{List, _++_, append-nil}
 use native.Mathlib.Omega.{arith}
 use lib.ListN.{length, take, drop, length-append, length-take, length-drop, take-append-drop, drop-of-length-le}
 use lib.Seq.{take-append-seam, drop-append-seam, drop-append-add, drop-drop}
@@ -11,7 +11,7 @@ use Rattle.io.proofs.Counting.{counts}
 use Rattle.drive_pass.specs.declared.Pass.{Pass}
 use Rattle.drive_text.specs.declared.Written.{Written}
 use Rattle.drive_text.specs.Written.{written, blockText}
-use Rattle.drive_text.specs.Batch.{firstBlock, Batched, nothing, oneBlock, then, batchOf, textOf, answerOf, nextOf}
+use Rattle.drive_text.specs.Batch.{firstBlock, Batched, oneBlock, then, batchOf, textOf, answerOf, nextOf}
 use Rattle.drive_text.proofs.Batches.{one-more, stays, stays-over, textOf-append}
 
 -- answer and text are those of the batch of i blocks; the bytes from start on are left

@@ -8,7 +8,7 @@ use lib.ListN.{length}
 use Rattle.drive_pass.specs.declared.Pass.{Pass}
 use Rattle.drive_pass.specs.declared.Pass.the-variants.{Empty}
 use Rattle.drive_pass.specs.PlainPass.{PassHolds}
-use Rattle.drive_text.specs.Batch.{Batched, then, batchOf, wholeOf, textOf}
+use Rattle.drive_text.specs.Batch.{then, batchOf, wholeOf, textOf}
 
 -- a batch with room for all of the bytes' blocks drives all of them
 abbrev pub RoomIsEnough : Type 0

@@ -1,6 +1,6 @@
 -- `drive_text::drive_batch` meets its contract. The loop's invariant: after i turns answer and text are those of i blocks. Assumes nothing.
-use mathlib.Core.Path.{_≡_, refl, ap}
-use Prim.Native.Nat.{ℕ, _+_, _-_, _*_, _/_, _≤_}
+use mathlib.Core.Path.{_≡_, ap}
+use Prim.Native.Nat.{ℕ, _-_, _/_, _≤_}
 use native.Mathlib.Omega.{arith}
 use borrow.Author.Needs.{needs}
 use lib.ListN.{length}
@@ -60,8 +60,11 @@ loop-less c = search needs
 loop-again : tie.Need-loop-again Inv-loop μ-loop
 loop-again c =
     let n = c .before .before .drive-next .ensures in
-    let e = c .before .before .before .before .before .block-end .ensures in
-    (omega arith, turn _ _ _ _ _ _ _ _ (c .before .before .before .before .before .before .before .before .before .loop .inv .1) _ _ (c .before .before .before .before .before .before .before .if1 .left) (c .before .before .before .before .before .before .if2 .left) (e .2) (e .1) (n .0) (n .1 .0) (n .1 .1) (search needs))
+    let at-end = c .before .before .before .before .before in
+    let e = at-end .block-end .ensures in
+    let left = at-end .before in
+    let inv = left .before .before .before .loop .inv .1 in
+    (omega arith, turn _ _ _ _ _ _ _ _ inv _ _ (left .before .if1 .left) (left .if2 .left) (e .2) (e .1) (n .0) (n .1 .0) (n .1 .1) (search needs))
 
 same-length-3 : tie.Need-same-length-3 Inv-loop μ-loop
 same-length-3 c = c .before .loop .inv .1 .same
