@@ -1,11 +1,15 @@
 #!/usr/bin/env python3
-"""Writes the passes of program `cases`, one behind the other, each ended by a refused block.
+"""Writes what program `cases` reads: a block, of which it turns each bit, and then passes, one behind the
+other, each ended by a refused block.
 
   python3 tools/case_blocks.py > crates/cases/stdin
+  python3 tools/case_blocks.py --answers       what `cases` must print first, of the block's bits and lengths
   python3 tools/case_blocks.py --split DIR     each pass in a file of its own, for the oracle's `ticks`
 
-Document 01's own block, each refusal alone, every two at once in the order of trial, a bit of each word
-turned without a new check, every spare word and flag, and the mistakes that document 01 says lie close.
+crates/cases/stdout is the answers, then what `ticks` prints for each pass, then the two lines of the tick
+limit. The passes: document 01's own block, each refusal alone, every two at once in the order of trial,
+every spare word and flag, and the mistakes that document 01 says lie close. The answers are worked out
+here from document 01's table of refusals, apart from the port and from the oracle.
 """
 import os, struct, sys
 
@@ -78,11 +82,6 @@ def refusals():
         yield block(0, k=k)
     for mode in (4, 255, 2**32 - 1):
         yield block(0, mode=mode)
-    whole = bytearray(block(0))
-    for word in range(128):
-        turned = bytearray(whole)
-        turned[4 * word + word % 4] ^= 1 << (word % 8)
-        yield bytes(turned)
 
 
 def behaviours():
@@ -111,15 +110,55 @@ def behaviours():
     yield end([block(0, mode=1, twist_to_wheel=[-1.0] * 12), block(1, mode=1, twist_to_wheel=[INF] * 12), block(2, flags=HALT, mode=2), block(3, mode=3)])
 
 
+def whole_block():
+    """The block whose bits are turned: an empty pass accepts it, and no field is zero but the spare words."""
+    floats = {name: [0.1 * (place + j) for j in range(n)]
+              for (name, place), n in zip(FLOATS.items(), (3, 4, 1, 6, 6, 13, 9, 9, 1, 1, 9, 12, 12, 12, 3))}
+    return block(0, flags=SEEN | STOP, mode=3, **dict(floats, gyro=NAN))
+
+
+def refusal(b):
+    """Document 01's table for a first block: 5, 6, 7, 8, 1, 4, 10 in this order, or 0."""
+    if len(b) != 512:
+        return 5
+    w = struct.unpack('<128I', b)
+    tried = ((6, w[127] != (1 + sum(w[:127])) % 2**32), (7, w[0] != 1), (8, w[2] >= 32 or any(w[106:127])),
+             (1, not 1 <= w[105] <= 64), (4, w[3] > 3), (10, w[1] != 0))
+    return next((number for number, refused in tried if refused), 0)
+
+
+def turned(word, bit, fresh):
+    w = list(struct.unpack('<128I', whole_block()))
+    w[word] ^= 1 << bit
+    if fresh:
+        w[127] = (1 + sum(w[:127])) % 2**32
+    return struct.pack('<128I', *w)
+
+
+def lengths():
+    whole = whole_block() + bytes(512)
+    return [whole[:n] for n in range(1025)]
+
+
+def answers():
+    """A line for each word, a glyph for each bit, lowest first; first without, then with a new check, which
+    the check's own bits can't have. Last a line with a glyph for each length."""
+    lines = [[turned(word, bit, fresh) for bit in range(32)] for fresh, words in ((False, 128), (True, 127)) for word in range(words)]
+    for line in lines + [lengths()]:
+        print(''.join('.123456789abc'[refusal(b)] for b in line))
+
+
 def main():
     passes = list(refusals()) + list(behaviours())
     passes.append(block(0) + block(1)[:300])  # a short last one
-    if len(sys.argv) > 2:
+    if sys.argv[1:] == ['--answers']:
+        answers()
+    elif len(sys.argv) > 2:
         for i, p in enumerate(passes):
             with open(os.path.join(sys.argv[2], '%04d' % i), 'wb') as f:
                 f.write(p)
     else:
-        sys.stdout.buffer.write(b''.join(passes))
+        sys.stdout.buffer.write(whole_block() + b''.join(passes))
 
 
 main()

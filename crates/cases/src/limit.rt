@@ -8,14 +8,14 @@ use libc::STDOUT_FILENO;
 const BLOCKS: u32 = 16_777_217;
 
 // Puts a byte into a block, where the block has its place.
-fn put_byte(block: &mut [u8], at: usize, byte: u8) {
+pub(crate) fn put_byte(block: &mut [u8], at: usize, byte: u8) {
     if at < block.len() {
         block[at] = byte;
     }
 }
 
 // Puts word i of a block, lowest byte first.
-fn put_word(block: &mut [u8], i: u8, word: u32) {
+pub(crate) fn put_word(block: &mut [u8], i: u8, word: u32) {
     let at = i as usize * 4;
     put_byte(block, at, (word % 256) as u8);
     put_byte(block, at + 1, (word / 0x100 % 256) as u8);

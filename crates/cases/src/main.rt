@@ -1,8 +1,10 @@
-// Program `cases`: document 01's cases that are not proved. Standard input has passes one behind the
-// other, each ended by a refused block; the lines of each are printed, and its last line. Then the
-// tick limit, in full.
+// Program `cases`: document 01's cases that are not proved. Standard input has a block, of which each
+// bit is turned, and then passes one behind the other, each ended by a refused block; the lines of
+// each are printed, and its last line. Then the tick limit, in full.
+mod bits; // bits.rt: each bit of a block turned, and each length
 mod limit; // limit.rt: a pass of 16,777,217 blocks
 
+use bits::turn_bits;
 use drive_pass::Pass;
 use drive_text::drive_block;
 use drive_text::write_last;
@@ -52,6 +54,7 @@ fn drive_next(pass: Pass) -> Turn {
 }
 
 fn main() {
+    turn_bits();
     let mut pass = Pass::Empty;
     let mut turns = TURNS;
     while turns > 0 {

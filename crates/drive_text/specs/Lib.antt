@@ -1,2 +1,4 @@
--- What the contracts of `drive_text` cite. Assumes nothing.
+-- What the contracts of `drive_text` cite, and what is shown of batches. Assumes nothing.
 pub mod Written
+pub mod Batch
+pub mod BatchLaws

@@ -1,19 +1,21 @@
-// A pass and a lent block in, the next pass and its line of text out; and the last line.
+// A pass and a lent block in, the next pass and its line of text out; the same for a batch of blocks;
+// and the last line.
 ghost use mathlib.Core.List.{_++_};
 ghost use mathlib.Core.Path.{_≡_};
-ghost use Prim.Native.Nat.{_≤_};
-ghost use lib.ListN.{length, drop};
+ghost use Prim.Native.Nat.{_+_, _-_, _≤_, min};
+ghost use lib.ListN.{length, take, drop};
 ghost use Rattle.io.specs.Counts.{Counts as Within};
 ghost use Rattle.line_text.specs.Text.{totalsText};
 ghost use Rattle.drive_pass.specs.Pass.{nextNumber, countsOf};
 ghost use Rattle.drive_text.specs.Written.{isRefused, written, blockText};
+ghost use Rattle.drive_text.specs.Batch.{textOf, batchInto, answerOf, nextOf};
 use drive_pass::Pass;
 use line_text::Line;
 use line_text::write_line;
 use line_text::write_totals;
 
-// The pass after a block, how long the block's line is, and whether the block was refused, which
-// ends the reading.
+// The pass after a block or several, how many bytes of text they gave, and whether one was refused,
+// which ends the reading.
 pub struct Written {
     pub pass: Pass,
     pub len: usize,
@@ -45,6 +47,69 @@ pub fn drive_block(pass: Pass, block: &[u8], buf: &mut [u8; 128]) -> Written
         len,
         refused,
     }
+}
+
+// Puts a line behind the at bytes that are there; what stands behind it stays.
+fn append(out: &mut [u8], at: usize, line: &[u8])
+    requires { ⌜ at + length (now line) ≤ length (now out) ⌝ }
+    ensures { λ _. ⌜ now (out .exit) ≡ take at (now (out .entry)) ++ now (line .entry) ++ drop (at + length (now (line .entry))) (now (out .entry)) ⌝ }
+{
+    bytes::copy(line, &mut out[at..]);
+}
+
+// Drives one block more, its line behind the text that is there.
+fn drive_next(done: Written, block: &[u8], out: &mut [u8]) -> Written
+    requires { ⌜ done .len + 128 ≤ length (now out) ⌝ }
+    ensures { λ r. ⌜ r ≡ nextOf done (now (block .entry)) ⌝ }
+    ensures { λ r. ⌜ now (out .exit) ≡ take (done .len) (now (out .entry)) ++ blockText (done .pass) (now (block .entry)) ++ drop (r .len) (now (out .entry)) ⌝ }
+    ensures { λ r. ⌜ r .len ≤ done .len + 128 ⌝ }
+{
+    let at = done.len;
+    let pass = done.pass;
+    let mut line = [0; 128];
+    let mut w = drive_block(pass, block, &mut line);
+    let len = w.len;
+    append(out, at, &line[..len]);
+    w.len = at + len;
+    w
+}
+
+// Where the block from start on ends; the last one may be short.
+fn block_end(start: usize, len: usize) -> usize
+    requires { ⌜ start ≤ len ⌝ }
+    ensures { λ r. ⌜ (start ≤ r) × (r ≤ len) × (r ≡ start + min 512 (len - start)) ⌝ }
+{
+    if len - start < 512 { len } else { start + 512 }
+}
+
+// Drives blocks of 512 bytes to their end or to the first refusal, as many as `out` has room for at
+// 128 bytes a line, and puts their text at the start of out; what stands behind it stays.
+pub fn drive_batch(pass: Pass, blocks: &[u8], out: &mut [u8]) -> Written
+    ensures { λ r. ⌜ r ≡ answerOf (batchInto (now (out .entry)) pass (now (blocks .entry))) ⌝ }
+    ensures { λ r. ⌜ now (out .exit) ≡ textOf (batchInto (now (out .entry)) pass (now (blocks .entry)) .lines) ++ drop (r .len) (now (out .entry)) ⌝ }
+    ensures { λ r. ⌜ Within (r .len) (now (out .exit)) ⌝ }
+{
+    let room = out.len() / 128;
+    let mut w = Written {
+        pass,
+        len: 0,
+        refused: false,
+    };
+    let mut i: usize = 0;
+    let mut start: usize = 0;
+    while i < room {
+        if w.refused {
+            return w;
+        }
+        if blocks.len() <= start {
+            return w;
+        }
+        let end = block_end(start, blocks.len());
+        w = drive_next(w, &blocks[start..end], out);
+        start = end;
+        i = i + 1;
+    }
+    w
 }
 
 // Puts the last line at the start of buf: ticks, and the counts in the order Q to R.

@@ -9,6 +9,9 @@ Inv-loop pass₀ turns₀ pass turns = Unit {0}
 abbrev μ-loop : tie.MeasureT-loop
 μ-loop pass₀ turns₀ pass turns = turns
 
+turn-bits-requires : tie.Need-turn-bits-requires Inv-loop μ-loop
+turn-bits-requires c κs = search needs
+
 loop-holds : tie.Need-loop-holds Inv-loop μ-loop
 loop-holds c = search needs
 
@@ -42,6 +45,7 @@ main-spec =
     (tie.spec
     Inv-loop
     μ-loop
+    turn-bits-requires
     loop-holds
     drive-next-requires
     loop-less
