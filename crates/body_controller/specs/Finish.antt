@@ -1,7 +1,7 @@
 -- Finish, document 01, 'The tick's four calls' and 'When a call is turned away'. Assumes nothing.
 use Prim.Native.Nat.{ℕ}
-use Rattle.tracking.specs.declared.FinishOutputs.{FinishOutputs}
-use Rattle.tracking.specs.Outputs.{finishOutputs}
+use Rattle.wheels.specs.declared.FinishOutputs.{FinishOutputs}
+use Rattle.wheels.specs.Outputs.{finishOutputs}
 use Rattle.body_controller.specs.declared.BodyController.{BodyController}
 use Rattle.body_controller.specs.declared.FinishInput.{FinishInput}
 use Rattle.body_controller.specs.declared.FinishAnswer.{FinishAnswer}

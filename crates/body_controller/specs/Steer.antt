@@ -16,8 +16,8 @@ use Rattle.tracking.specs.declared.RecoveryAnswer.{RecoveryAnswer}
 use Rattle.tracking.specs.declared.ManeuverSetpoints.{ManeuverSetpoints}
 use Rattle.tracking.specs.Setpoints.{zeroSetpoints, trackingSetpoints}
 use Rattle.tracking.specs.Recovery.{recovery}
-use Rattle.tracking.specs.Limits.{stopScaled, twistClamped}
-use Rattle.tracking.specs.Friction.{frictionTwist}
+use Rattle.wheels.specs.Limits.{stopScaled, twistClamped}
+use Rattle.wheels.specs.Friction.{frictionTwist}
 use Rattle.body_controller.specs.declared.BodyController.{BodyController}
 use Rattle.tick_parts.specs.declared.Refusal.{Refusal}
 use Rattle.tick_parts.specs.declared.Refusal.the-variants.{OutOfTurn, PlannerFailed}

@@ -10,7 +10,7 @@ use crate::Steered;
 use crate::Turn;
 use tick_parts::Outputs;
 use tick_parts::Refusal;
-use tracking::outputs::finish_outputs;
+use wheels::outputs::finish_outputs;
 
 impl BodyController {
     // The outputs that steer's setpoints give; sight is next.

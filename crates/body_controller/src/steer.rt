@@ -20,11 +20,11 @@ use maneuvers::Sample;
 use tick_parts::Refusal;
 use tracking::HeldState;
 use tracking::ManeuverSetpoints;
-use tracking::friction::friction_twist;
-use tracking::limits::clamp_twist;
-use tracking::limits::stop_scaled;
 use tracking::recovery::update_tracking_divergence_recovery;
 use tracking::setpoints::calc_tracking_setpoints;
+use wheels::friction::friction_twist;
+use wheels::limits::clamp_twist;
+use wheels::limits::stop_scaled;
 
 fn held_state(held: HeldSample) -> HeldState
     ensures { λ r. ⌜ r ≡ heldState held ⌝ }

@@ -14,7 +14,7 @@ use Rattle.active_brake.proofs.Cases as Brake
 use Rattle.first_order_lag.specs.FirstOrderLag.{lagOf}
 use Rattle.first_order_lag.proofs.Cases as Lag
 use Rattle.vision_gate.proofs.Cases as Gate
-use Rattle.tracking.proofs.limits.Cases as Limits
+use Rattle.wheels.proofs.limits.Cases as Limits
 use Rattle.body_controller.specs.Controller.{newOf}
 use Rattle.cases.specs.Starred.{float, currentBits, NumberFor, Starred}
 

@@ -14,7 +14,7 @@ use Rattle.active_brake.specs.Brake as Brake
 use Rattle.first_order_lag.specs.FirstOrderLag as Lag
 use Rattle.vision_gate.specs.Vision.{active}
 use Rattle.vision_gate.specs.Since.{clockSince}
-use Rattle.tracking.specs.Limits.{twistClamped}
+use Rattle.wheels.specs.Limits.{twistClamped}
 use Rattle.body_controller.specs.Controller.{newOf, newNumber}
 
 -- the float with these bits

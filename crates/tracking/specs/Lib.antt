@@ -1,8 +1,4 @@
--- What the contracts of `tracking` cite: document 01, 'Steer' and 'Finish', sentence by sentence. Definitions only; the laws about them stand in proofs/.
+-- What the contracts of `tracking` cite: document 01, 'Steer', sentence by sentence. Definitions only; the laws about them stand in proofs/.
 -- Assumes nothing.
-pub mod Planar
 pub mod Setpoints
 pub mod Recovery
-pub mod Limits
-pub mod Friction
-pub mod Outputs

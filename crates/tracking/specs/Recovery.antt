@@ -14,7 +14,7 @@ use Rattle.tracking.specs.declared.TrackingDivergenceState.the-variants.
 use Rattle.tracking.specs.declared.HeldState.{HeldState}
 use Rattle.tracking.specs.declared.HeldState.the-variants.{Absent, Held}
 use Rattle.tracking.specs.declared.RecoveryAnswer.{RecoveryAnswer}
-use Rattle.tracking.specs.Planar.{hypotXY}
+use Rattle.planar.specs.Planar.{hypotXY}
 
 -- 'Steer': recovering, a term of document 01, or Normal
 abbrev pub isRecovering : TrackingDivergenceState → Bool

@@ -1,14 +1,9 @@
-// Document 01, 'Steer' and 'Finish', each sentence a function: control_context.rs from the
-// trajectory's sample to the setpoints, and body_controller.rs from these to the wheels.
-mod planar; // planar.rt: the two lengths of a vector's x and y
+// Document 01, 'Steer', each sentence a function: control_context.rs from the trajectory's sample
+// to the setpoints, and recovery.
 pub mod setpoints; // setpoints.rt: calc_tracking_setpoints
 pub mod recovery; // recovery.rt: the tracking error and what recovery makes of it
-pub mod limits; // limits.rt: stop, and the clamps of twist and acceleration
-pub mod friction; // friction.rt: the friction twist, local and gated
-pub mod outputs; // outputs.rt: from the friction force to wheel speeds and torques
 
 use linear::Vector3f;
-use linear::Vector4f;
 use linear::Vector6f;
 use pid::PidController3;
 
@@ -38,18 +33,4 @@ pub enum HeldState {
 pub struct RecoveryAnswer {
     pub state: TrackingDivergenceState,
     pub reset: bool,
-}
-
-// A vector within its bounds, and document 01's clamp mark: an entry is not equal to the one given.
-pub struct Clamped {
-    pub value: Vector3f,
-    pub clamped: bool,
-}
-
-// `BodyController`'s outputs that finish sets, and the acceleration's clamp mark.
-pub struct FinishOutputs {
-    pub body_accel_out_fric_comp: Vector3f,
-    pub accel_clamped: bool,
-    pub wheel_vel_out: Vector4f,
-    pub wheel_torque_out: Vector4f,
 }

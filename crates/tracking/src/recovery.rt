@@ -5,7 +5,6 @@ ghost use Rattle.tracking.specs.Recovery.{isRecovering, divergenceLetter
 use crate::HeldState;
 use crate::RecoveryAnswer;
 use crate::TrackingDivergenceState;
-use crate::planar::hypot_xy;
 use controller_params::TRACKING_DIVERGENCE_RECOVERY_REST_WHEEL_VEL;
 use controller_params::TRACKING_ERROR_THRESHOLD;
 use controller_params::TrackingErrors;
@@ -13,6 +12,7 @@ use ieee754::bits::abs;
 use ieee754::remainder::remainder;
 use linear::Vector4f;
 use linear::Vector6f;
+use planar::hypot_xy;
 
 impl TrackingDivergenceState {
     // `tracking_divergence_recovery_active`.

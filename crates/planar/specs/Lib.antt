@@ -1,0 +1,2 @@
+-- What the contracts of `planar` cite. Assumes nothing.
+pub mod Planar

@@ -1,0 +1,62 @@
+// What body_controller.rs does to setpoints: the stop state's speed, and the two clamps.
+ghost use mathlib.Core.Path.{_≡_};
+ghost use Rattle.wheels.specs.Limits.{stopScaled, clampedTo, twistClamped, accelClamped};
+use crate::Clamped;
+use controller_params::BODY_ACCEL_CLAMP_ANGULAR;
+use controller_params::BODY_ACCEL_CLAMP_LINEAR;
+use controller_params::BODY_VEL_CLAMP_ANGULAR;
+use controller_params::BODY_VEL_CLAMP_LINEAR;
+use controller_params::STOP_STATE_LINEAR_SPEED_LIMIT;
+use ieee754::clamp::clamp_within;
+use linear::Vector3f;
+use planar::norm_xy;
+
+// In the stop state the linear speed is scaled down to its limit; the angular one stays.
+pub fn stop_scaled(stop: bool, twist: Vector3f) -> Vector3f
+    ensures { λ r. ⌜ r ≡ stopScaled stop twist ⌝ }
+{
+    if stop {
+        let linear_speed = norm_xy(twist);
+        if linear_speed > STOP_STATE_LINEAR_SPEED_LIMIT {
+            let scale = STOP_STATE_LINEAR_SPEED_LIMIT / linear_speed;
+            Vector3f {
+                x: twist.x * scale,
+                y: twist.y * scale,
+                z: twist.z,
+            }
+        } else {
+            twist
+        }
+    } else {
+        twist
+    }
+}
+
+// NaN stays, and is marked: it is not equal to itself.
+fn clamp_to(linear: f32, angular: f32, v: Vector3f) -> Clamped
+    ensures { λ r. ⌜ r ≡ clampedTo linear angular v ⌝ }
+{
+    let x = clamp_within(v.x, linear);
+    let y = clamp_within(v.y, linear);
+    let z = clamp_within(v.z, angular);
+    Clamped {
+        value: Vector3f { x, y, z },
+        clamped: (x != v.x) | (y != v.y) | (z != v.z),
+    }
+}
+
+pub fn clamp_twist(body_twist: Vector3f) -> Clamped
+    ensures { λ r. ⌜ r ≡ twistClamped «body_twist» ⌝ }
+{
+    clamp_to(BODY_VEL_CLAMP_LINEAR, BODY_VEL_CLAMP_ANGULAR, body_twist)
+}
+
+pub fn clamp_accel(body_accel: Vector3f) -> Clamped
+    ensures { λ r. ⌜ r ≡ accelClamped «body_accel» ⌝ }
+{
+    clamp_to(
+        BODY_ACCEL_CLAMP_LINEAR,
+        BODY_ACCEL_CLAMP_ANGULAR,
+        body_accel,
+    )
+}
