@@ -6,10 +6,9 @@ use Rattle.maneuvers.specs.declared.ManeuverCommand.{ManeuverCommand}
 use Rattle.maneuvers.specs.declared.CommandAnswer.{CommandAnswer}
 use Rattle.maneuvers.specs.declared.CommandAnswer.the-variants as Command
 use Rattle.maneuvers.specs.declared.PlanAnswer.{PlanAnswer}
-use Rattle.maneuvers.specs.declared.PlanAnswer.the-variants.{Hold, NoVision, Keep, NewPlan}
 use Rattle.maneuvers.specs.declared.Decision.{Decision}
 use Rattle.maneuvers.specs.Command.{isMode, commandFrom}
-use Rattle.maneuvers.specs.Plan.{decided}
+use Rattle.maneuvers.specs.Plan.{decided, disablesWheels}
 use Rattle.tracking.specs.Recovery.{isRecovering}
 use Rattle.body_controller.specs.declared.BodyController.{BodyController}
 use Rattle.body_controller.specs.declared.PlanInput.{PlanInput}
@@ -22,13 +21,6 @@ use Rattle.body_controller.specs.declared.Turn.the-variants as Turns
 use Rattle.tick_parts.specs.Refusal.{refusalNumber}
 use Rattle.body_controller.specs.Controller.{inTurn}
 use Rattle.body_controller.specs.Turn.{isPlan}
-
--- 'Modes 2 and 3 without active vision disable the wheels'
-abbrev pub disablesWheels : PlanAnswer → Bool
-disablesWheels Hold = false
-disablesWheels NoVision = true
-disablesWheels Keep = false
-disablesWheels (NewPlan seed) = false
 
 -- the one decision, on this input's command
 abbrev pub decisionOn : BodyController → PlanInput → ManeuverCommand → Decision

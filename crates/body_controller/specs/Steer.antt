@@ -9,7 +9,8 @@ use Rattle.maneuvers.specs.declared.HeldSample.{HeldSample}
 use Rattle.maneuvers.specs.declared.HeldSample.the-variants as Samples
 use Rattle.maneuvers.specs.declared.PlanAnswer.{PlanAnswer}
 use Rattle.maneuvers.specs.declared.PlanAnswer.the-variants.{Hold, NoVision, Keep, NewPlan}
-use Rattle.maneuvers.specs.Memory.{trajectoryDropped, afterTracking}
+use Rattle.maneuvers.specs.Memory.{trajectoryDropped, afterTracking, heldOr}
+use Rattle.maneuvers.specs.Plan.{needsPlan}
 use Rattle.tracking.specs.declared.HeldState.{HeldState}
 use Rattle.tracking.specs.declared.HeldState.the-variants as States
 use Rattle.tracking.specs.declared.RecoveryAnswer.{RecoveryAnswer}
@@ -39,18 +40,6 @@ use Rattle.body_controller.specs.Reset.{contextReset}
 abbrev pub heldState : HeldSample → HeldState
 heldState Samples.Absent = States.Absent
 heldState (Samples.Held s) = States.Held (s .state)
-
--- plan answered that a new plan is needed
-abbrev pub needsPlan : PlanAnswer → Bool
-needsPlan Hold = false
-needsPlan NoVision = false
-needsPlan Keep = false
-needsPlan (NewPlan seed) = true
-
--- the held sample. Where there is none, which no keep meets, the fresh one, so that there is an answer
-abbrev pub heldOr : HeldSample → Sample → Sample
-heldOr Samples.Absent fresh = fresh
-heldOr (Samples.Held s) fresh = s
 
 -- `calc_tracking_setpoints` on a sample; 'after it, the next sample is held and the command is the previous one'
 unfoldable pub tracked : BodyController → Sample → Sample → ManeuverCommand → Setpoints

@@ -1,6 +1,6 @@
 // Plan, the tick's second call: the estimate is set, and what is to be tracked is decided.
 ghost use mathlib.Core.Path.{_≡_};
-ghost use Rattle.body_controller.specs.Plan.{disablesWheels, planned, planWith, planOf, planNumber, planRefusal};
+ghost use Rattle.body_controller.specs.Plan.{planned, planWith, planOf, planNumber, planRefusal};
 ghost use Rattle.maneuvers.specs.Command.{commandFrom};
 use crate::BodyController;
 use crate::Phase;
@@ -11,21 +11,8 @@ use crate::Planned;
 use crate::Turn;
 use maneuvers::CommandAnswer;
 use maneuvers::ManeuverCommand;
-use maneuvers::PlanAnswer;
 use maneuvers::plan::decide;
 use tick_parts::Refusal;
-
-// Without vision the wheels are disabled.
-fn disables_wheels(answer: PlanAnswer) -> bool
-    ensures { λ r. ⌜ r ≡ disablesWheels answer ⌝ }
-{
-    match answer {
-        PlanAnswer::Hold => false,
-        PlanAnswer::NoVision => true,
-        PlanAnswer::Keep => false,
-        PlanAnswer::NewPlan(seed) => false,
-    }
-}
 
 impl BodyController {
     // The controller after the decision on this command.
@@ -47,7 +34,7 @@ impl BodyController {
         let answer = decision.answer;
         let memory = decision.memory;
         let estimate = i.state_estimate;
-        let disabled = disables_wheels(answer);
+        let disabled = answer.disables_wheels();
         self.state_estimate = estimate;
         self.memory = memory;
         self.prev_mode = decision.prev_mode;

@@ -1,6 +1,6 @@
 // Steer, the tick's third call: setpoints that track the plan, recovery, stop and the twist's limits.
 ghost use mathlib.Core.Path.{_≡_};
-ghost use Rattle.body_controller.specs.Steer.{heldState, needsPlan, heldOr, tracked, followed, recovered, limited, steered, plannerFailed, steerRefused, steerWith, steerOf, steerNumber, steerRefusal};
+ghost use Rattle.body_controller.specs.Steer.{heldState, tracked, followed, recovered, limited, steered, plannerFailed, steerRefused, steerWith, steerOf, steerNumber, steerRefusal};
 ghost use Rattle.tick_parts.specs.declared.Refusal.the-variants.{OutOfTurn};
 use crate::BodyController;
 use crate::Phase;
@@ -35,27 +35,6 @@ fn held_state(held: HeldSample) -> HeldState
             let state = sample.state;
             HeldState::Held(state)
         }
-    }
-}
-
-fn needs_plan(answer: PlanAnswer) -> bool
-    ensures { λ r. ⌜ r ≡ needsPlan answer ⌝ }
-{
-    match answer {
-        PlanAnswer::Hold => false,
-        PlanAnswer::NoVision => false,
-        PlanAnswer::Keep => false,
-        PlanAnswer::NewPlan(seed) => true,
-    }
-}
-
-// The held sample; plan answers keep only where there is one.
-fn held_or(held: HeldSample, fresh: Sample) -> Sample
-    ensures { λ r. ⌜ r ≡ heldOr held fresh ⌝ }
-{
-    match held {
-        HeldSample::Absent => fresh,
-        HeldSample::Held(sample) => sample,
     }
 }
 
@@ -104,7 +83,7 @@ impl BodyController {
             PlanAnswer::Keep => {
                 let memory = self.memory;
                 let held = memory.held;
-                return self.track(held_or(held, fresh), next, cmd);
+                return self.track(held.held_or(fresh), next, cmd);
             }
             PlanAnswer::NewPlan(seed) => {
                 return self.track(fresh, next, cmd);
@@ -179,7 +158,7 @@ impl BodyController {
         ensures { λ r. ⌜ r ≡ steerWith p self i ⌝ }
     {
         let answer = p.answer;
-        if i.planner_failed & needs_plan(answer) {
+        if i.planner_failed & answer.needs_plan() {
             return SteerResult {
                 answer: SteerAnswer::Refused(Refusal::PlannerFailed),
                 controller: self.fail_plan(),

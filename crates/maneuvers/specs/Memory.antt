@@ -2,6 +2,7 @@
 use mathlib.Core.Bool.{Bool, true, not}
 use Rattle.maneuvers.specs.declared.ManeuverCommand.{ManeuverCommand}
 use Rattle.maneuvers.specs.declared.Sample.{Sample}
+use Rattle.maneuvers.specs.declared.HeldSample as Held
 use Rattle.maneuvers.specs.declared.HeldSample.the-variants as HeldSample
 use Rattle.maneuvers.specs.declared.PrevCommand.{PrevCommand}
 use Rattle.maneuvers.specs.declared.PrevCommand.the-variants as Prev
@@ -24,3 +25,8 @@ afterTracking next cmd = record { held = HeldSample.Held next; «prev_cmd» = Pr
 unfoldable pub commandChanged : PrevCommand → ManeuverCommand → Bool
 commandChanged Prev.Absent cmd = true
 commandChanged (Prev.Was prev) cmd = not (equal prev cmd)
+
+-- the held sample. Where there is none, which no keep meets, the fresh one, so that there is an answer
+abbrev pub heldOr : Held.HeldSample → Sample → Sample
+heldOr HeldSample.Absent fresh = fresh
+heldOr (HeldSample.Held s) fresh = s

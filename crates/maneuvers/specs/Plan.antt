@@ -60,3 +60,19 @@ answerNumber (NewPlan seed) = 3
 unfoldable pub numberDecided : ℕ → Bool → Bool → Bool → ManeuverCommand → Memory → ℕ → ℕ
 numberDecided mode halt recovering vision cmd m prev =
     cond (holds mode halt recovering) 0 (cond vision (cond (plansAnew (inMode m mode prev) cmd) 3 2) 1)
+
+-- ---- what plan's answer asks for
+
+-- 'Modes 2 and 3 without active vision disable the wheels'
+abbrev pub disablesWheels : PlanAnswer → Bool
+disablesWheels Hold = false
+disablesWheels NoVision = true
+disablesWheels Keep = false
+disablesWheels (NewPlan seed) = false
+
+-- plan answered that a new plan is needed
+abbrev pub needsPlan : PlanAnswer → Bool
+needsPlan Hold = false
+needsPlan NoVision = false
+needsPlan Keep = false
+needsPlan (NewPlan seed) = true

@@ -1,11 +1,23 @@
 // What is remembered between ticks: the held sample and the previous command.
 ghost use mathlib.Core.Path.{_≡_};
-ghost use Rattle.maneuvers.specs.Memory.{emptyMemory, trajectoryDropped, afterTracking, commandChanged};
+ghost use Rattle.maneuvers.specs.Memory.{emptyMemory, trajectoryDropped, afterTracking, commandChanged, heldOr};
 use crate::HeldSample;
 use crate::ManeuverCommand;
 use crate::Memory;
 use crate::PrevCommand;
 use crate::Sample;
+
+impl HeldSample {
+    // The held sample, or the fresh one where there is none.
+    pub fn held_or(self, fresh: Sample) -> Sample
+        ensures { λ r. ⌜ r ≡ heldOr self fresh ⌝ }
+    {
+        match self {
+            HeldSample::Absent => fresh,
+            HeldSample::Held(sample) => sample,
+        }
+    }
+}
 
 impl PrevCommand {
     pub fn command_changed(self, cmd: ManeuverCommand) -> bool
