@@ -227,6 +227,7 @@ impl Pass {
     // A block's line and the next pass.
     pub fn drive(self, block: &[u8]) -> Driven
         ensures { λ r. ⌜ r ≡ driven self (now (block .entry)) ⌝ }
+        ensures { λ _. ⌜ now (block .exit) ≡ now (block .entry) ⌝ }
     {
         let answer = read(block);
         match answer {

@@ -88,13 +88,13 @@ module _ (p : Pass) (bytes out₀ out : List ℕ) (i start end : ℕ) (w : Writt
         same = l ∙ g .same;
       }
 
-  -- ---- the end, where there is room for n blocks
+  -- ---- the end, where there is room for n blocks; the lent bytes stay
 
   pub ended : (n : ℕ) → i * 128 ≤ length out₀ → batchOf n p bytes ≡ batchOf i p bytes
-      → (w ≡ answerOf (batchOf n p bytes)) × ((out ≡ textOf (batchOf n p bytes .lines) ++ drop (w .len) out₀) × Counts (w .len) out)
+      → (w ≡ answerOf (batchOf n p bytes)) × ((out ≡ textOf (batchOf n p bytes .lines) ++ drop (w .len) out₀) × (Counts (w .len) out × (bytes ≡ bytes)))
   ended n h e =
       let fits : w .len ≤ length out = omega arith in
-      rw e (g .answer, (g .text, counts _ _ fits))
+      rw e (g .answer, (g .text, (counts _ _ fits, refl)))
 
   -- a refusal, or no bytes left
   pub refused : (n : ℕ) → i ≤ n → w .refused ≡ true → batchOf n p bytes ≡ batchOf i p bytes

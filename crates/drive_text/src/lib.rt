@@ -36,6 +36,7 @@ pub fn drive_block(pass: Pass, block: &[u8], buf: &mut [u8; 128]) -> Written
     ensures { λ r. ⌜ r ≡ written pass (now (block .entry)) ⌝ }
     ensures { λ _. ⌜ now (buf .exit) ≡ blockText pass (now (block .entry)) ++ drop (length (blockText pass (now (block .entry)))) (now (buf .entry)) ⌝ }
     ensures { λ r. ⌜ (r .len ≤ 128) × Within (r .len) (now (buf .exit)) ⌝ }
+    ensures { λ _. ⌜ now (block .exit) ≡ now (block .entry) ⌝ }
 {
     let driven = pass.drive(block);
     let line = driven.line;
@@ -88,6 +89,7 @@ pub fn drive_batch(pass: Pass, blocks: &[u8], out: &mut [u8]) -> Written
     ensures { λ r. ⌜ r ≡ answerOf (batchInto (now (out .entry)) pass (now (blocks .entry))) ⌝ }
     ensures { λ r. ⌜ now (out .exit) ≡ textOf (batchInto (now (out .entry)) pass (now (blocks .entry)) .lines) ++ drop (r .len) (now (out .entry)) ⌝ }
     ensures { λ r. ⌜ Within (r .len) (now (out .exit)) ⌝ }
+    ensures { λ _. ⌜ now (blocks .exit) ≡ now (blocks .entry) ⌝ }
 {
     let room = out.len() / 128;
     let mut w = Written {

@@ -16,7 +16,7 @@ write-line-requires c κs = search needs
 
 returns : tie.Need-returns
 unfolding written blockText
-returns c = rw (← c .before .before .before .drive .ensures, ← c .before .before .is-refused .ensures, ← c .write-line .ensures .0) (refl, rw (← c .write-line .ensures .0) at (c .write-line .ensures .1))
+returns c = rw (← c .before .before .before .drive .ensures .0, ← c .before .before .is-refused .ensures, ← c .write-line .ensures .0) (let w = rw (← c .write-line .ensures .0) at (c .write-line .ensures .1) in (refl, (w .0, (w .1, refl))))
 
 pub drive-block-spec : {M : Type 1} → statement M
 drive-block-spec =

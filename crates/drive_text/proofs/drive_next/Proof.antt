@@ -44,7 +44,7 @@ returns c =
     let d = c .before .before .before .before .before .drive-block .ensures in
     let text = blockText (start .args .done .pass) (start .args .block .now) in (
       ap (λ (w : Written). record { pass = w .pass; len = start .args .done .len + w .len; refused = w .refused }) (d .0),
-      (line-placed (start .args .out .now) _ _ text _ (start .args .done .len) _ (ap (λ (w : Written). w .len) (d .0)) (d .1 .0) (c .before .before .append .ensures), omega (arith, d .1 .1 .0)),
+      (line-placed (start .args .out .now) _ _ text _ (start .args .done .len) _ (ap (λ (w : Written). w .len) (d .0)) (d .1 .0) (c .before .before .append .ensures), omega (arith, d .1 .1 .0 .0)),
     )
 
 pub drive-next-spec : {M : Type 1} → statement M

@@ -1,4 +1,5 @@
 -- `drive_pass::Pass::drive` meets its contract. Assumes nothing.
+use mathlib.Core.Path.{refl}
 use borrow.Author.Needs.{needs}
 use Rattle.drive_pass.specs.Pass.{driven}
 use Rattle.drive_pass.proofs.Pass.drive.Statement.{statement}
@@ -24,11 +25,11 @@ refuse-requires c κs = search needs
 
 returns : tie.Need-returns
 unfolding driven
-returns c = rw (c .take .ensures, ← c .before .before .before .before .read .ensures .0, c .before .before .answer .given .1)
+returns c = (rw (c .take .ensures, ← c .before .before .before .before .read .ensures .0, c .before .before .answer .given .1), refl)
 
 returns-2 : tie.Need-returns-2
 unfolding driven
-returns-2 c = rw (c .refuse .ensures, c .before .number .ensures, ← c .before .before .before .before .before .read .ensures .0, c .before .before .before .answer2 .given .1)
+returns-2 c = (rw (c .refuse .ensures, c .before .number .ensures, ← c .before .before .before .before .before .read .ensures .0, c .before .before .before .answer2 .given .1), refl)
 
 pub drive-spec : {M : Type 1} → statement M
 drive-spec =
