@@ -11,6 +11,7 @@ use Rattle.tracking.specs.declared.recovery.TrackingDivergenceState.the-variant
 use Rattle.tracking.specs.Setpoints.{posePid}
 use Rattle.body_controller.specs.declared.controller.BodyController.{BodyController}
 use Rattle.body_controller.specs.declared.controller.Choices.{Choices}
+use Rattle.body_controller.specs.declared.controller.Kept.{Kept}
 use Rattle.body_controller.specs.declared.controller.NewAnswer.{NewAnswer}
 use Rattle.body_controller.specs.declared.controller.NewAnswer.the-variants.{Made, Refused}
 use Rattle.body_controller.specs.declared.outputs.Outputs.{Outputs}
@@ -71,4 +72,17 @@ inTurn c turn = record {
   outputs = c .outputs;
   ticks = c .ticks;
   counts = c .counts;
+}
+
+-- ---- for a reader
+
+-- each part as the controller has it
+unfoldable pub keptOf : BodyController → Kept
+keptOf c = record {
+  vision = c .vision;
+  memory = c .memory;
+  «pose_pid_controller» = c .«pose_pid_controller»;
+  «state_estimate» = c .«state_estimate»;
+  «prev_mode» = c .«prev_mode»;
+  outputs = c .outputs;
 }

@@ -3,7 +3,7 @@ ghost use mathlib.Core.Path.{_≡_};
 ghost use Rattle.tick_length.specs.TickLength.{refusalOf};
 ghost use Rattle.vision_gate.specs.Vision.{active};
 ghost use Rattle.tracking.specs.Recovery.{isRecovering};
-ghost use Rattle.body_controller.specs.Controller.{started, newOf, newNumber, inTurn};
+ghost use Rattle.body_controller.specs.Controller.{started, newOf, newNumber, inTurn, keptOf};
 ghost use Rattle.body_controller.specs.Reset.{contextReset, resetOf};
 use crate::counts::Counts;
 use crate::outputs::Outputs;
@@ -36,6 +36,16 @@ pub struct BodyController {
     pub(crate) outputs: Outputs,
     pub(crate) ticks: u32,
     pub(crate) counts: Counts,
+}
+
+// What a controller keeps from tick to tick beside turn, marks and counts, for a reader to compare.
+pub struct Kept {
+    pub vision: Vision,
+    pub memory: Memory,
+    pub pose_pid_controller: PidController3,
+    pub state_estimate: Vector6f,
+    pub prev_mode: u32,
+    pub outputs: Outputs,
 }
 
 // A controller, or document 01's refusal 1.
@@ -117,6 +127,24 @@ impl BodyController {
         let phase = self.phase;
         let state = phase.state;
         state.recovering()
+    }
+
+    pub fn kept(self) -> Kept
+        ensures { λ r. ⌜ r ≡ keptOf self ⌝ }
+    {
+        let vision = self.vision;
+        let memory = self.memory;
+        let pid = self.pose_pid_controller;
+        let estimate = self.state_estimate;
+        let outputs = self.outputs;
+        Kept {
+            vision,
+            memory,
+            pose_pid_controller: pid,
+            state_estimate: estimate,
+            prev_mode: self.prev_mode,
+            outputs,
+        }
     }
 
     // The turn passed on.
