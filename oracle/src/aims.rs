@@ -36,13 +36,18 @@ fn slope(kp: f32, kd: f32, wanted: f32) -> f32 {
     (wanted - kp / 64.0) / kd
 }
 
-/// On the x or y axis.
+/// On the x or y axis, or beside it by so little that it counts in a sum but not
+/// in a root of squares.
 fn on_axis(draw: &mut Draw, v: f32) -> (f32, f32) {
     let v = draw.either_sign(v);
+    let beside = match draw.below(3) {
+        0 => (v.abs().next_up() - v.abs()) * 0.505,
+        _ => 0.0,
+    };
     if draw.chance(50) {
-        (v, 0.0)
+        (v, beside)
     } else {
-        (0.0, v)
+        (beside, v)
     }
 }
 
@@ -106,11 +111,7 @@ pub(crate) fn scene(draw: &mut Draw) -> Scene {
         }
         7 => {
             // Errors at anti-jitter's thresholds.
-            at = [
-                draw.about(0.001),
-                draw.about(0.001),
-                draw.about(0.01),
-            ];
+            at = [draw.about(0.001), draw.about(0.001), draw.about(0.01)];
         }
         8 => {
             // Headings half a turn and more apart.
@@ -168,12 +169,20 @@ pub(crate) fn divergence(words: &mut Words, draw: &mut Draw) {
         words.put(ESTIMATE + j, &[0.0]);
         words.put(NEXT + j, &[0.0]);
     }
-    let off = match draw.below(6) {
+    let off = match draw.below(7) {
         0 => 1.5 * limit,
         1 => f32::NAN,
+        // Headings that are near one another, turns apart.
+        2 | 3 if i == 2 => draw.pick(&[6.0, 6.2831855, 7.0, 100.0, 5.0, 18.0]),
         _ => draw.near(limit),
     };
     words.put(NEXT + i, &[draw.either_sign(off)]);
+    if both[0] != both[1] && draw.chance(10) {
+        words.put(NEXT + both[0], &[draw.special(), draw.special()]);
+    }
+    if both[0] != both[1] && draw.chance(5) {
+        words.put(NEXT + both[0], &[f32::INFINITY, f32::NAN]);
+    }
 }
 
 /// Wheels at, below and above rest.

@@ -153,7 +153,11 @@ impl Cart {
         put(&mut out, 12, calls.predicted.iter());
         out[18] = self.plan(answer) as u32;
         put(&mut out, 19, calls.planned.unwrap_or_default().iter());
-        put(&mut out, 25, calls.friction_twist.unwrap_or_default().iter());
+        put(
+            &mut out,
+            25,
+            calls.friction_twist.unwrap_or_default().iter(),
+        );
         let (vel_clamped, accel_clamped) = answer.result.unwrap_or_default();
         out[45] = vel_clamped as u32;
         out[46] = accel_clamped as u32;

@@ -30,6 +30,32 @@ enum Plan {
 
 type Command = (u32, [f32; 13]);
 
+/// For the counts: a command that changed in one field alone.
+const POSITION: [&str; 7] = [
+    "plan: anew by a position's x",
+    "plan: anew by a position's y",
+    "plan: anew by a position's heading",
+    "plan: anew by a position's linear speed",
+    "plan: anew by a position's angular speed",
+    "plan: anew by a position's linear acceleration",
+    "plan: anew by a position's angular acceleration",
+];
+const LINE: [&str; 13] = [
+    "plan: anew by a line's heading",
+    "plan: anew by a line's start x",
+    "plan: anew by a line's start y",
+    "plan: anew by a line's direction x",
+    "plan: anew by a line's direction y",
+    "plan: anew by a line's speed",
+    "plan: anew by a line's limit 1",
+    "plan: anew by a line's limit 2",
+    "plan: anew by a line's limit 3",
+    "plan: anew by a line's limit 4",
+    "plan: anew by a line's limit 5",
+    "plan: anew by a line's limit 6",
+    "plan: anew by a line's threshold",
+];
+
 pub struct Controller {
     dt: f32,
     ticks: u32,
@@ -247,10 +273,8 @@ impl Controller {
                 };
                 let (dx, dy) = (deviation(sums[0], sums[2]), deviation(sums[1], sums[3]));
                 self.met(dx != dx || dy != dy, "gate: a deviation is NaN");
-                self.met(
-                    dx == 0.03 || dy == 0.03,
-                    "gate: a deviation exactly 0.03",
-                );
+                self.met(dx == 0.03 && dy < 0.03, "gate: x deviates exactly 0.03");
+                self.met(dy == 0.03 && dx < 0.03, "gate: y deviates exactly 0.03");
                 if dx < 0.03 && dy < 0.03 {
                     self.gate = Gate::Tracking { t: 0.0 };
                     2
@@ -329,7 +353,14 @@ impl Controller {
         }
         if mode != self.prev_mode {
             self.met(self.prev_mode != 0, "plan: from line to position or back");
-            self.met(self.held.is_some(), "plan: a changed mode drops a held sample");
+            self.met(
+                self.held.is_some(),
+                "plan: a changed mode drops a held sample",
+            );
+            self.met(
+                self.held.is_some() && !self.active(),
+                "plan: a changed mode drops a held sample, without vision",
+            );
             self.drop_memory();
             self.prev_mode = mode;
         }
@@ -349,6 +380,11 @@ impl Controller {
             self.met(same && signs, "plan: keep, though a zero's sign changed");
             self.met(words && nan, "plan: anew, since the same command has a NaN");
             self.met(!same && !nan, "plan: anew, since the command changed");
+            let changed: Vec<usize> = (0..13).filter(|i| old[*i] != fields[*i]).collect();
+            if let ([i], false) = (&changed[..], nan) {
+                self.met(mode == 2, POSITION[*i % 7]);
+                self.met(mode == 3, LINE[*i]);
+            }
         }
         match self.held {
             Some(_) if same => Plan::Keep,
@@ -381,10 +417,7 @@ impl Controller {
             let mut out = (kp * e + 0.0 * self.pid_sum[i]) + kd * slope;
             self.met(e.abs() < calm, "track: anti-jitter scales");
             self.met(e.abs() == calm, "track: error exactly at anti-jitter");
-            self.met(
-                i == 2 && e.abs() == PI,
-                "track: heading error exactly PI",
-            );
+            self.met(i == 2 && e.abs() == PI, "track: heading error exactly PI");
             self.met(
                 word(sample[3 + i]) == 0x8000_0000,
                 "track: a setpoint of -0.0",
@@ -419,6 +452,10 @@ impl Controller {
             "recovery: begun by velocity alone",
             "recovery: begun by turning alone",
         ];
+        self.met(
+            (s[2] - e[2]).abs() > PI && errors[1] < 1.57,
+            "recovery: headings near, turns apart",
+        );
         let above = (0..4).filter(|i| errors[*i] > limits[*i]).count();
         for (i, (e, limit)) in errors.into_iter().zip(limits).enumerate() {
             self.met(e == limit, exactly[i]);

@@ -87,6 +87,8 @@ pub struct World {
     seeding: Seeding,
     /// What the held sample is to meet.
     scene: Option<Scene>,
+    /// How many times more often inputs are aimed than usual.
+    aims: usize,
 }
 
 impl World {
@@ -102,7 +104,18 @@ impl World {
             plain: Controller::new(k),
             seeding: Seeding::AsDrawn,
             scene: None,
+            aims: 1,
         }
+    }
+
+    /// For short passes: seeded at once, and aimed more often.
+    pub fn dense(seed: u64, k: u32) -> World {
+        let mut world = World::new(seed, k);
+        world.now.sightings = 100;
+        world.now.outliers = 0;
+        world.now.left = 25 + (seed % 30) as usize;
+        world.aims = 3;
+        world
     }
 
     pub fn block(&mut self) -> Block {
@@ -149,7 +162,10 @@ impl World {
         if draw.chance(2) {
             self.now.mode = draw.below(4) as u32;
         }
-        if draw.chance(5) {
+        if !self.plain.active() && self.plain.held.is_some() && draw.chance(10) {
+            self.now.mode = 5 - self.now.mode.max(2);
+        }
+        if draw.chance(5 * self.aims) {
             let i = draw.below(13);
             let c = &mut self.now.command[i];
             *c = match draw.below(5) {
@@ -234,7 +250,7 @@ impl World {
                 aims::seed(words, self.seeding, n);
             }
             Gate::Tracking { t } => {
-                if self.now.sightings > 0 && draw.chance(5) {
+                if self.now.sightings > 0 && draw.chance(5 * self.aims) {
                     aims::gate(words, t, draw);
                     words.0[2] |= 1;
                 }
@@ -248,13 +264,13 @@ impl World {
             // The cameras are to run out with a sample held.
         } else if let Some(scene) = met {
             self.meet(words, scene, draw);
-        } else if draw.chance(12) {
+        } else if draw.chance(12 * self.aims) {
             // Held in this tick, met in the next.
             let scene = aims::scene(draw);
             words.put(NEXT, &scene.sample);
             words.put(ESTIMATE, &scene.sample);
             self.scene = Some(scene);
-        } else if draw.chance(4) {
+        } else if draw.chance(4 * self.aims) {
             aims::divergence(words, draw);
         }
     }
@@ -306,12 +322,12 @@ const ORDER: [u32; 8] = [5, 6, 7, 8, 1, 4, 9, 10];
 /// Changes the block so that the test of this refusal fails.
 fn spoil(block: &mut Block, refusal: u32, draw: &mut Draw) {
     match refusal {
-        1 => block.words[105] = [0, 65, 256 + block.k(), 0xffff_ffff][draw.below(4)],
+        1 => block.words[105] = [0, 65, 256, 0xffff_ffff][draw.below(4)],
         4 => block.words[3] = [4, 5, 256, 0xffff_ffff][draw.below(4)],
         7 => block.words[0] = [0, 2, 257, 0x0100_0000][draw.below(4)],
         8 if draw.chance(50) => block.words[2] |= 32 << draw.below(27),
         8 => block.words[106 + draw.below(21)] = 1 << draw.below(32),
-        9 => block.words[105] = (block.k() + draw.below(63) as u32) % 64 + 1,
+        9 => block.words[105] = (block.k() % 64 + draw.below(63) as u32) % 64 + 1,
         10 if draw.chance(50) => block.words[1] = block.words[1].wrapping_sub(1),
         10 => block.words[1] = block.words[1].wrapping_add(1),
         _ => {}
