@@ -3,7 +3,7 @@
 
     bench/drive.py FIRMWARE_SRC [ROUNDS]
 
-- the ratio: 400,000 blocks, firmware and drive by turns, the best of ROUNDS (9) each;
+- the ratio: 400,000 blocks, firmware and drive by turns, the best of ROUNDS (15) each;
 - where drive's time goes, by two variants of it that are built without proof: one puts a byte for
   each tick in the place of its line (what is saved is the text), one leaves the four calls out and
   prints the block's own wheels (what is saved is the tick); the rest is reading and check;
@@ -56,16 +56,21 @@ fn look_only(c: BodyController, b: TickBlock) -> Driven {
 
 
 def seconds(command, blocks):
+    """Time by the clock, and the processor's time that the program took."""
     with open(blocks, "rb") as given:
         began = time.perf_counter()
-        subprocess.run(command, stdin=given, stdout=subprocess.DEVNULL, check=True)
-        return time.perf_counter() - began
+        child = subprocess.Popen(command, stdin=given, stdout=subprocess.DEVNULL)
+        _, status, used = os.wait4(child.pid, 0)
+        taken = time.perf_counter() - began
+    child.returncode = os.waitstatus_to_exitcode(status)
+    assert child.returncode == 0, command
+    return taken, used.ru_utime + used.ru_stime
 
 
 def best(commands, blocks, rounds):
-    """The best time of each command, run by turns."""
+    """The best of both times of each command, run by turns."""
     times = [[seconds(c, blocks) for c in commands] for _ in range(rounds)]
-    return [min(column) for column in zip(*times)]
+    return [tuple(map(min, zip(*column))) for column in zip(*times)]
 
 
 def variant(kit, room, name, edit):
@@ -87,8 +92,11 @@ def main():
     if len(sys.argv) not in (2, 3):
         sys.exit(__doc__)
     os.environ["FIRMWARE_SRC"] = str(Path(sys.argv[1]).resolve())
-    rounds = int(sys.argv[2]) if len(sys.argv) == 3 else 9
-    target = Path(os.environ.get("CARGO_TARGET_DIR", TOP / "oracle/target"))
+    rounds = int(sys.argv[2]) if len(sys.argv) == 3 else 15
+    # Without the checks that the oracle otherwise keeps in.
+    os.environ["CARGO_PROFILE_RELEASE_DEBUG_ASSERTIONS"] = "false"
+    os.environ["CARGO_PROFILE_RELEASE_OVERFLOW_CHECKS"] = "false"
+    target = Path(os.environ.get("CARGO_TARGET_DIR", TOP / "oracle/target")) / "bench"
     build = ["cargo", "build", "--quiet", "--release", "--offline", "--target-dir", target]
     subprocess.run(build + ["--manifest-path", TOP / "oracle/Cargo.toml"], check=True)
     subprocess.run(["rt", "check", "drive"], cwd=TOP, check=True, stdout=subprocess.DEVNULL)
@@ -104,17 +112,18 @@ def main():
 
         blocks = room / str(TICKS)
         firmware, ours = best([ticks, drive], blocks, rounds)
-        print(f"{TICKS} blocks, best of {rounds} by turns: firmware {firmware:.3f} s, drive {ours:.3f} s,"
-              f" ratio {firmware / ours:.2f} (load {load:.1f} on {os.cpu_count()} cores)")
+        print(f"{TICKS} blocks, best of {rounds} by turns (load {load:.1f} on {os.cpu_count()} cores):")
+        for what, i in (("clock", 0), ("processor", 1)):
+            print(f"  {what}: firmware {firmware[i]:.3f} s, drive {ours[i]:.3f} s, ratio {firmware[i] / ours[i]:.2f}")
 
         variants = [variant(kit, room, *v) for v in (("whole", None), ("no_text", NO_TEXT), ("no_tick", NO_TICK))]
-        whole, no_text, no_tick = (t * 1e9 / TICKS for t in best(variants, blocks, rounds))
+        whole, no_text, no_tick = (cpu * 1e9 / TICKS for _, cpu in best(variants, blocks, rounds))
         text, tick = whole - no_text, whole - no_tick
-        print(f"ns for a tick: {whole:.0f} in all; reading and check {whole - text - tick:.0f}, tick {tick:.0f}, text {text:.0f}")
+        print(f"ns of processor for a tick: {whole:.0f}; reading and check {whole - text - tick:.0f}, tick {tick:.0f}, text {text:.0f}")
 
         for count in (10**4, 10**5, 10**6):
-            (time_taken,) = best([drive], room / str(count), rounds)
-            print(f"{count} ticks: {time_taken * 1e9 / count:.0f} ns for a tick")
+            ((clock, cpu),) = best([drive], room / str(count), rounds)
+            print(f"{count} ticks: {clock * 1e9 / count:.0f} ns for a tick by the clock, {cpu * 1e9 / count:.0f} of processor")
     finally:
         shutil.rmtree(room)
 

@@ -4,8 +4,8 @@
     oracle/mutants.py FIRMWARE_SRC
 
 For each mistake the crates are copied, the copy is changed, tick_words (or drive, for what only the
-text shows) is built from it without proof, and run on passes of 500 ticks for each k from 1 to 64
-and of 6,000 for the powers of two, each ended by a refusal; its output is held against the
+text shows) is built from it without proof, and run on passes of 500 ticks for each k from 1 to 64,
+of 6,000 for the powers of two and of none and one, each ended by a refusal; its output is held against the
 firmware's. The sample stored in crates/tick_words is tried too. Writes oracle/MUTANTS.md, and ends
 with 1 if a mistake goes unseen.
 """
@@ -20,8 +20,9 @@ TOP = HERE.parent
 TEXT = {"line_text", "drive_pass", "drive_text", "drive"}
 TEXT_FILES = {"body_controller/src/counts.rt"}
 REFUSALS = [1, 4, 5, 6, 7, 8, 9, 10]
-# k and ticks of each pass; the longer ones let the cameras run out at exactly 0.5.
-PASSES = [(k, 500) for k in range(1, 65)] + [(2**i, 6000) for i in range(7)]
+# k and ticks of each pass; the longer ones let the cameras run out at exactly 0.5, the shortest
+# bring many refused blocks.
+PASSES = [(k, 500) for k in range(1, 65)] + [(2**i, 6000) for i in range(7)] + [(i, i % 2) for i in range(1, 65)]
 
 
 def mutants():
@@ -46,11 +47,14 @@ def firmware(room):
     sample = []
     for i, (k, ticks) in enumerate(PASSES):
         blocks = room / f"pass{i}"
-        draw = [str(5000 + i), str(ticks + 1), str(k), str(REFUSALS[i % 8])]
+        refusal = REFUSALS[i // 2 % 8]
+        # Blocks of another pass come behind, but not behind a short one.
+        more = 0 if refusal == 5 else 3
+        draw = [str(word) for word in (5000 + i, ticks + 1, k, refusal, more)]
         with open(blocks, "wb") as out:
             subprocess.run([target / "release" / "blocks"] + draw, stdout=out, check=True)
         answers = []
-        for flags in (["--full"], []):
+        for flags in (["--full", "--passes"], []):
             with open(blocks, "rb") as given:
                 run = subprocess.run([target / "release" / "ticks"] + flags, stdin=given, capture_output=True, check=True)
                 answers.append(run.stdout)
@@ -139,7 +143,8 @@ def report(rows):
         "",
         "`oracle/mutants.py FIRMWARE_SRC` makes this page. Each mistake of `oracle/mutants.txt` was planted by itself,"
         f" built without proof and run on {len(PASSES)} passes, {sum(ticks for _, ticks in PASSES)} ticks in all:"
-        " 500 for each k from 1 to 64 and 6,000 for each power of two, each pass ended by a refusal."
+        " 500 for each k from 1 to 64, 6,000 for each power of two, and none or one 64 times; each pass is ended by a refusal,"
+        " with blocks of another pass behind it."
         " `tick_words` is held against `ticks --full`, and `drive` against `ticks` where only the text shows the mistake"
         " (no entry in the last column)."
         " 'Stored' is the sample that `rt ci` replays, `crates/tick_words/stdin`.",

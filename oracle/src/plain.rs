@@ -417,7 +417,8 @@ impl Controller {
             let mut out = (kp * e + 0.0 * self.pid_sum[i]) + kd * slope;
             self.met(e.abs() < calm, "track: anti-jitter scales");
             self.met(e.abs() == calm, "track: error exactly at anti-jitter");
-            self.met(i == 2 && e.abs() == PI, "track: heading error exactly PI");
+            self.met(i == 2 && e == PI, "track: heading error exactly PI");
+            self.met(i == 2 && e == -PI, "track: heading error exactly -PI");
             self.met(
                 word(sample[3 + i]) == 0x8000_0000,
                 "track: a setpoint of -0.0",

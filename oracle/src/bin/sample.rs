@@ -1,7 +1,8 @@
 //! `sample BLOCKS` writes short passes, that many blocks in all, chosen so that
 //! every branch that `compare` counts is met in them: of many passes drawn, the
 //! one that adds most to what is rare so far is taken next. Each ends with a
-//! refused block; the one that is cut short comes last.
+//! refused block, and refused blocks alone follow; the one that is cut short
+//! comes last.
 
 use oracle::block::Block;
 use oracle::draw::Draw;
@@ -10,7 +11,9 @@ use oracle::world::{broken, World};
 use std::collections::{BTreeMap, BTreeSet};
 use std::io::{self, Write};
 
-const REFUSALS: [u32; 8] = [1, 4, 6, 7, 8, 9, 10, 5];
+const REFUSALS: [u32; 7] = [1, 4, 6, 7, 8, 9, 10];
+/// What a pass's first block can be refused with, but for its length.
+const ALONE: [u32; 6] = [1, 4, 6, 7, 8, 10];
 const LETTERS: [&str; 8] = ["Q", "G", "C", "S", "T", "J", "F", "R"];
 
 struct Pass {
@@ -72,7 +75,7 @@ fn main() -> io::Result<()> {
     let all: BTreeSet<&str> = passes.iter().flat_map(|p| p.met.keys().copied()).collect();
     let mut so_far: BTreeMap<&str, usize> = BTreeMap::new();
     let mut taken: Vec<Pass> = Vec::new();
-    let mut left = budget;
+    let mut left = budget - ALONE.len() * 6;
     while let Some((at, _)) = passes
         .iter()
         .enumerate()
@@ -87,16 +90,24 @@ fn main() -> io::Result<()> {
         taken.push(pass);
     }
     let mut out = io::stdout().lock();
-    let last = taken.len() - 1;
     for (i, pass) in taken.iter().enumerate() {
         let mut blocks = drawn(pass.seed, pass.k, pass.blocks);
         let refused = blocks.pop().unwrap();
-        let refusal = if i == last { 5 } else { REFUSALS[i % 7] };
         for block in &blocks {
             out.write_all(&block.bytes())?;
         }
-        out.write_all(&broken(refused, refusal, &mut Draw::new(pass.seed)))?;
+        // Now and then 9 and 10 at once.
+        let draw = &mut Draw::new(pass.seed);
+        out.write_all(&broken(refused, REFUSALS[i % 7], draw))?;
     }
+    for seed in 0..6 {
+        for refusal in ALONE {
+            let draw = &mut Draw::new(seed);
+            out.write_all(&broken(World::new(seed, 16).block(), refusal, draw))?;
+        }
+    }
+    let short = broken(World::new(1, 16).block(), 5, &mut Draw::new(1));
+    out.write_all(&short)?;
     for what in all {
         if !so_far.contains_key(what) {
             eprintln!("not met: {what}");
