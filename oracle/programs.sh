@@ -1,4 +1,4 @@
-# Read by compare.sh and by bench/drive.sh: builds and runs the firmware's programs and the proved ones.
+# Read by compare.sh: builds and runs the firmware's programs and the proved ones.
 # $top is the repository's folder.
 rust=${CARGO_TARGET_DIR:-$top/oracle/target}/release
 kit=$(dirname "$(dirname "$(rt doc)")")
