@@ -142,67 +142,88 @@ impl Cart {
 
     /// All that a tick answers and leaves, as 96 words; the README lists them.
     pub fn record(&self, answer: &Answer) -> [u32; 96] {
-        let mut out = Vec::with_capacity(96);
+        let mut out = self.state();
         let calls = &answer.calls;
+        let (measurement, skip_vision) = calls.measured.unwrap();
+        out[0] = self.ticks - 1;
+        out[1] = answer.outcome as u32;
+        out[2] = answer.result.err().unwrap_or(0);
+        put(&mut out, 3, measurement.iter());
+        out[11] = !skip_vision as u32;
+        put(&mut out, 12, calls.predicted.iter());
+        out[18] = self.plan(answer) as u32;
+        put(&mut out, 19, calls.planned.unwrap_or_default().iter());
+        put(
+            &mut out,
+            25,
+            calls.friction_twist.unwrap_or_default().iter(),
+        );
+        let (vel_clamped, accel_clamped) = answer.result.unwrap_or_default();
+        out[45] = vel_clamped as u32;
+        out[46] = accel_clamped as u32;
+        out
+    }
+
+    /// What the controller has, in its words of the 96; the others are 0.
+    pub fn state(&self) -> [u32; 96] {
+        let mut out = [0; 96];
         let body = &self.body;
         let context = &body.control_context;
-        let (measurement, skip_vision) = calls.measured.unwrap();
-        out.push(self.ticks - 1);
-        out.push(answer.outcome as u32);
-        out.push(answer.result.err().unwrap_or(0));
-        floats(&mut out, measurement.iter());
-        out.push(!skip_vision as u32);
-        floats(&mut out, calls.predicted.iter());
-        out.push(self.plan(answer) as u32);
-        floats(&mut out, calls.planned.unwrap_or_default().iter());
-        floats(&mut out, calls.friction_twist.unwrap_or_default().iter());
-        floats(&mut out, body.body_twist_out.iter());
-        floats(&mut out, body.body_accel_out.iter());
-        floats(&mut out, body.body_accel_out_fric_comp.iter());
-        floats(&mut out, body.wheel_vel_out.iter());
-        floats(&mut out, body.wheel_torque_out.iter());
-        let (vel_clamped, accel_clamped) = answer.result.unwrap_or_default();
-        out.push(vel_clamped as u32);
-        out.push(accel_clamped as u32);
-        out.push(body.wheels_disabled() as u32);
+        put(&mut out, 28, body.body_twist_out.iter());
+        put(&mut out, 31, body.body_accel_out.iter());
+        put(&mut out, 34, body.body_accel_out_fric_comp.iter());
+        put(&mut out, 37, body.wheel_vel_out.iter());
+        put(&mut out, 41, body.wheel_torque_out.iter());
+        out[47] = body.wheels_disabled() as u32;
         match &context.vision_gate {
             VisionGateState::Seeding {
                 n,
                 pos_sum,
                 pos_sq_sum,
             } => {
-                out.extend([0, *n]);
-                floats(&mut out, pos_sum.iter());
-                floats(&mut out, pos_sq_sum.iter());
-                out.push(0);
+                out[49] = *n;
+                put(&mut out, 50, pos_sum.iter());
+                put(&mut out, 52, pos_sq_sum.iter());
             }
             VisionGateState::Tracking {
                 time_since_last_valid_s,
             } => {
-                out.extend([1, 0, 0, 0, 0, 0]);
-                out.push(word(*time_since_last_valid_s));
+                out[48] = 1;
+                out[54] = word(*time_since_last_valid_s);
             }
         }
-        out.push(word(context.time_since_vision_update_s));
-        out.push(context.vision_active() as u32);
-        out.push((context.tracking_divergence_state == TrackingDivergenceState::Recovering) as u32);
-        let (state, accel) = match &context.trajectory {
-            Some(t) => t.sample(),
-            None => Default::default(),
-        };
-        out.push(context.trajectory.is_some() as u32);
-        floats(&mut out, state.iter());
-        floats(&mut out, accel.iter());
+        out[55] = word(context.time_since_vision_update_s);
+        out[56] = context.vision_active() as u32;
+        out[57] = (context.tracking_divergence_state == TrackingDivergenceState::Recovering) as u32;
+        if let Some(t) = &context.trajectory {
+            let (state, accel) = t.sample();
+            out[58] = 1;
+            put(&mut out, 59, state.iter());
+            put(&mut out, 65, accel.iter());
+        }
         let (kind, fields) = command(&context.prev_cmd);
-        out.push(kind);
-        floats(&mut out, fields.iter());
-        out.push(maneuvers::previous_mode(&body.maneuver_manager));
-        floats(&mut out, context.state_estimate.iter());
+        out[68] = kind;
+        put(&mut out, 69, fields.iter());
+        out[82] = maneuvers::previous_mode(&body.maneuver_manager);
+        put(&mut out, 83, context.state_estimate.iter());
         let (prev, integrated) = pid::memory(&context.pose_pid_controller);
-        floats(&mut out, prev.iter());
-        floats(&mut out, integrated.iter());
-        out.push(0);
-        out.try_into().unwrap()
+        put(&mut out, 89, prev.iter());
+        put(&mut out, 92, integrated.iter());
+        out
+    }
+
+    /// The 96 words of a refused block: the number that its tick would have had,
+    /// 8, the refusal, and what a reset call then leaves. Without a cart, zeros.
+    pub fn refused(cart: Option<Cart>, refusal: u32) -> [u32; 96] {
+        let mut out = [0; 96];
+        if let Some(mut cart) = cart {
+            cart.body.reset();
+            out = cart.state();
+            out[0] = cart.ticks;
+        }
+        out[1] = 8;
+        out[2] = refusal;
+        out
     }
 
     pub fn last_line(&self) -> String {
@@ -230,8 +251,10 @@ pub fn word(x: f32) -> u32 {
     }
 }
 
-fn floats<'a>(out: &mut Vec<u32>, xs: impl Iterator<Item = &'a f32>) {
-    out.extend(xs.map(|x| word(*x)));
+fn put<'a>(out: &mut [u32; 96], at: usize, xs: impl Iterator<Item = &'a f32>) {
+    for (to, x) in out[at..].iter_mut().zip(xs) {
+        *to = word(*x);
+    }
 }
 
 /// Mode and fields of a previous command, 0 and zeros if there is none.

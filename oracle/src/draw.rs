@@ -103,4 +103,10 @@ impl Draw {
             x
         }
     }
+
+    /// x or one of its neighbours, or their negation.
+    pub fn about(&mut self, x: f32) -> f32 {
+        let x = self.near(x);
+        self.either_sign(x)
+    }
 }

@@ -4,6 +4,7 @@
 // control_context.rs asks for the model under its crate's name.
 extern crate self as ateam_lib_stm32;
 
+mod aims;
 pub mod block;
 pub mod cart;
 pub mod draw;

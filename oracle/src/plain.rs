@@ -6,11 +6,11 @@ use crate::block::Block;
 use std::collections::BTreeMap;
 
 const PI: f32 = f32::from_bits(0x4049_0fdb);
-const BASE: f32 = f32::from_bits(0x3f1a_e148);
-const SPIN: f32 = f32::from_bits(0x41fb_53d2);
+pub(crate) const BASE: f32 = f32::from_bits(0x3f1a_e148);
+pub(crate) const SPIN: f32 = f32::from_bits(0x41fb_53d2);
 
 #[derive(Clone, Copy)]
-enum Gate {
+pub(crate) enum Gate {
     Seeding { n: u32, sums: [f32; 4] },
     Tracking { t: f32 },
 }
@@ -30,13 +30,39 @@ enum Plan {
 
 type Command = (u32, [f32; 13]);
 
+/// For the counts: a command that changed in one field alone.
+const POSITION: [&str; 7] = [
+    "plan: anew by a position's x",
+    "plan: anew by a position's y",
+    "plan: anew by a position's heading",
+    "plan: anew by a position's linear speed",
+    "plan: anew by a position's angular speed",
+    "plan: anew by a position's linear acceleration",
+    "plan: anew by a position's angular acceleration",
+];
+const LINE: [&str; 13] = [
+    "plan: anew by a line's heading",
+    "plan: anew by a line's start x",
+    "plan: anew by a line's start y",
+    "plan: anew by a line's direction x",
+    "plan: anew by a line's direction y",
+    "plan: anew by a line's speed",
+    "plan: anew by a line's limit 1",
+    "plan: anew by a line's limit 2",
+    "plan: anew by a line's limit 3",
+    "plan: anew by a line's limit 4",
+    "plan: anew by a line's limit 5",
+    "plan: anew by a line's limit 6",
+    "plan: anew by a line's threshold",
+];
+
 pub struct Controller {
     dt: f32,
     ticks: u32,
-    gate: Gate,
+    pub(crate) gate: Gate,
     clock: f32,
-    recovering: bool,
-    held: Option<[f32; 9]>,
+    pub(crate) recovering: bool,
+    pub(crate) held: Option<[f32; 9]>,
     prev: Option<Command>,
     prev_mode: u32,
     estimate: [f32; 6],
@@ -48,6 +74,9 @@ pub struct Controller {
     accel_fric: [f32; 3],
     wheels: [f32; 4],
     torques: [f32; 4],
+    /// For the counts alone: the last tick was quiet; a sample was held before the gate judged.
+    quiet_before: bool,
+    dropped: bool,
     /// How often each branch was met.
     pub met: BTreeMap<&'static str, usize>,
 }
@@ -175,6 +204,8 @@ impl Controller {
             accel_fric: [0.0; 3],
             wheels: [0.0; 4],
             torques: [0.0; 4],
+            quiet_before: false,
+            dropped: false,
             met: BTreeMap::new(),
         }
     }
@@ -185,7 +216,7 @@ impl Controller {
         }
     }
 
-    fn active(&self) -> bool {
+    pub(crate) fn active(&self) -> bool {
         self.clock <= 0.5
     }
 
@@ -242,6 +273,8 @@ impl Controller {
                 };
                 let (dx, dy) = (deviation(sums[0], sums[2]), deviation(sums[1], sums[3]));
                 self.met(dx != dx || dy != dy, "gate: a deviation is NaN");
+                self.met(dx == 0.03 && dy < 0.03, "gate: x deviates exactly 0.03");
+                self.met(dy == 0.03 && dx < 0.03, "gate: y deviates exactly 0.03");
                 if dx < 0.03 && dy < 0.03 {
                     self.gate = Gate::Tracking { t: 0.0 };
                     2
@@ -256,6 +289,10 @@ impl Controller {
                 self.met(distance == BASE, "gate: distance exactly the base radius");
                 self.met(distance == radius, "gate: distance exactly the radius");
                 self.met(distance != distance, "gate: distance NaN");
+                self.met(
+                    !(distance < radius) && t > 0.0 && self.quiet_before,
+                    "gate: R right after a quiet tick",
+                );
                 if distance < radius {
                     self.gate = Gate::Tracking { t: 0.0 };
                     if distance >= BASE {
@@ -281,16 +318,24 @@ impl Controller {
         let mut predicted: [f32; 6] = take(block, 12);
         let outcome = self.judge(block.flag(0), at, &predicted);
         let taken = [2, 4, 5].contains(&outcome);
+        self.dropped = self.held.is_some();
         if outcome == 2 || outcome == 5 {
             let vel = product(&take::<12>(block, 90), take::<4>(block, 7));
             predicted = [at[0], at[1], at[2], vel[0], vel[1], block.float(11)];
             self.drop_memory();
             self.forget_pid();
         }
+        self.quiet_before = outcome == 0;
+        self.met(
+            [2, 5].contains(&outcome) && self.dropped,
+            "gate: C or J dropped a held sample",
+        );
         if taken {
             self.clock = 0.0;
         } else if self.clock <= 0.5 {
             self.clock = self.clock + self.dt;
+            self.met(self.clock == 0.5, "clock: exactly 0.5");
+            self.met(self.clock > 0.5, "clock: runs out");
         }
         (outcome, taken, predicted)
     }
@@ -299,11 +344,23 @@ impl Controller {
         self.estimate = take(block, 18);
         let (mode, fields) = cmd;
         if block.flag(1) || self.recovering || mode < 2 {
+            self.met(block.flag(1), "plan: hold by halt");
+            self.met(self.recovering, "plan: hold while recovering");
+            self.met(self.held.is_some(), "plan: hold drops a held sample");
             self.drop_memory();
             self.prev_mode = 0;
             return Plan::Hold;
         }
         if mode != self.prev_mode {
+            self.met(self.prev_mode != 0, "plan: from line to position or back");
+            self.met(
+                self.held.is_some(),
+                "plan: a changed mode drops a held sample",
+            );
+            self.met(
+                self.held.is_some() && !self.active(),
+                "plan: a changed mode drops a held sample, without vision",
+            );
             self.drop_memory();
             self.prev_mode = mode;
         }
@@ -316,6 +373,19 @@ impl Controller {
             Some((kind, old)) => kind == mode && old.iter().zip(&fields).all(|(a, b)| a == b),
             None => false,
         };
+        if let (Some((_, old)), Some(_)) = (self.prev, self.held) {
+            let signs = old.iter().zip(&fields).any(|(a, b)| word(*a) != word(*b));
+            let nan = old.iter().zip(&fields).any(|(a, b)| a != a && b != b);
+            let words = old.iter().zip(&fields).all(|(a, b)| word(*a) == word(*b));
+            self.met(same && signs, "plan: keep, though a zero's sign changed");
+            self.met(words && nan, "plan: anew, since the same command has a NaN");
+            self.met(!same && !nan, "plan: anew, since the command changed");
+            let changed: Vec<usize> = (0..13).filter(|i| old[*i] != fields[*i]).collect();
+            if let ([i], false) = (&changed[..], nan) {
+                self.met(mode == 2, POSITION[*i % 7]);
+                self.met(mode == 3, LINE[*i]);
+            }
+        }
         match self.held {
             Some(_) if same => Plan::Keep,
             Some(s) => {
@@ -346,6 +416,13 @@ impl Controller {
             self.pid_error[i] = e;
             let mut out = (kp * e + 0.0 * self.pid_sum[i]) + kd * slope;
             self.met(e.abs() < calm, "track: anti-jitter scales");
+            self.met(e.abs() == calm, "track: error exactly at anti-jitter");
+            self.met(i == 2 && e == PI, "track: heading error exactly PI");
+            self.met(i == 2 && e == -PI, "track: heading error exactly -PI");
+            self.met(
+                word(sample[3 + i]) == 0x8000_0000,
+                "track: a setpoint of -0.0",
+            );
             if e.abs() < calm {
                 out = (out * e.abs()) / calm;
             }
@@ -364,8 +441,26 @@ impl Controller {
         ];
         let limits = [1.0, 1.57, 5.0, 10.0];
         let mut over = false;
-        for (e, limit) in errors.into_iter().zip(limits) {
-            self.met(e == limit, "recovery: an error exactly its threshold");
+        let exactly = [
+            "recovery: place exactly 1.0 off",
+            "recovery: heading exactly 1.57 off",
+            "recovery: velocity exactly 5.0 off",
+            "recovery: turning exactly 10.0 off",
+        ];
+        let alone = [
+            "recovery: begun by place alone",
+            "recovery: begun by heading alone",
+            "recovery: begun by velocity alone",
+            "recovery: begun by turning alone",
+        ];
+        self.met(
+            (s[2] - e[2]).abs() > PI && errors[1] < 1.57,
+            "recovery: headings near, turns apart",
+        );
+        let above = (0..4).filter(|i| errors[*i] > limits[*i]).count();
+        for (i, (e, limit)) in errors.into_iter().zip(limits).enumerate() {
+            self.met(e == limit, exactly[i]);
+            self.met(e > limit && above == 1, alone[i]);
             self.met(e != e, "recovery: an error NaN");
             over = over || e > limit;
         }
@@ -378,7 +473,13 @@ impl Controller {
                 wheels.iter().any(|w| w.abs() == 50.0),
                 "recovery: a wheel exactly at 50.0",
             );
+            self.met(wheels.iter().any(|w| w != w), "recovery: a wheel NaN");
+            self.met(
+                wheels.iter().filter(|w| w.abs() < 50.0).count() == 3,
+                "recovery: one wheel alone still turns",
+            );
             if wheels.iter().all(|w| w.abs() < 50.0) {
+                self.met(self.clock == 0.0, "recovery: ended on a taken sighting");
                 self.recovery_reset();
                 self.met(true, "recovery: ended, reset");
             }
@@ -390,6 +491,10 @@ impl Controller {
 
     /// The friction twist, local and gated; and whether the twist was clamped.
     fn steer(&mut self, block: &Block, plan: Plan, cmd: Command) -> Result<([f32; 3], bool), u32> {
+        self.met(
+            block.flag(4) && !matches!(plan, Plan::New(_)),
+            "planner failure ignored",
+        );
         if matches!(plan, Plan::New(_)) && block.flag(4) {
             self.held = None;
             return Err(12);
@@ -411,6 +516,11 @@ impl Controller {
             let [x, y, _] = self.twist;
             let speed = root(x * x + y * y);
             self.met(speed > 1.25, "steer: stop scales");
+            self.met(speed == 1.25, "steer: stop at exactly 1.25");
+            self.met(
+                speed == f32::INFINITY && x.is_finite() && y.is_finite(),
+                "steer: stop's speed overflows",
+            );
             if speed > 1.25 {
                 let scale = 1.25 / speed;
                 self.twist[0] = x * scale;
@@ -421,6 +531,11 @@ impl Controller {
         let clamped = [kept_in(x, 10.0), kept_in(y, 10.0), kept_in(z, SPIN)];
         let mark = clamped[0] != x || clamped[1] != y || clamped[2] != z;
         self.met(mark, "steer: twist clamped");
+        self.met(x != x || y != y || z != z, "steer: twist NaN");
+        self.met(
+            x.abs() == 10.0 || y.abs() == 10.0 || z.abs() == SPIN,
+            "steer: twist exactly at a limit",
+        );
         self.twist = clamped;
 
         let (c, s) = (block.float(55), block.float(56));
@@ -430,6 +545,24 @@ impl Controller {
         let pushed = turned(c, -s, self.accel);
         let linear = hypot(pushed[0], pushed[1]) >= 0.5 || hypot(moving[0], moving[1]) >= 0.1;
         let angular = pushed[2].abs() >= 1.0 || moving[2].abs() >= 0.5;
+        let calm = hypot(pushed[0], pushed[1]) < 0.5;
+        let slow = hypot(moving[0], moving[1]) < 0.1;
+        self.met(
+            calm && hypot(moving[0], moving[1]) == 0.1,
+            "steer: friction by speed exactly 0.1 alone",
+        );
+        self.met(
+            slow && hypot(pushed[0], pushed[1]) == 0.5,
+            "steer: friction by acceleration exactly 0.5 alone",
+        );
+        self.met(
+            pushed[2].abs() < 1.0 && moving[2].abs() == 0.5,
+            "steer: friction by turning exactly 0.5 alone",
+        );
+        self.met(
+            moving[2].abs() < 0.5 && pushed[2].abs() == 1.0,
+            "steer: friction by angular acceleration exactly 1.0 alone",
+        );
         self.met(linear, "steer: linear friction on");
         self.met(!linear, "steer: linear friction off");
         self.met(angular, "steer: angular friction on");
@@ -453,6 +586,10 @@ impl Controller {
         ];
         let mark = (0..3).any(|i| self.accel_fric[i] != whole[i]);
         self.met(mark, "finish: acceleration clamped");
+        self.met(
+            whole[0].abs() == 20.0 || whole[1].abs() == 20.0 || whole[2].abs() == 100.0,
+            "finish: acceleration exactly at a limit",
+        );
         self.wheels = product(&take::<12>(block, 66), self.twist)
             .try_into()
             .unwrap();
@@ -460,6 +597,14 @@ impl Controller {
             .try_into()
             .unwrap();
         mark
+    }
+
+    /// How often the inputs' floats are odd.
+    fn count_inputs(&mut self, block: &Block) {
+        let xs: [f32; 101] = take(block, 4);
+        self.met(xs.iter().any(|x| x != x), "input: a NaN");
+        self.met(xs.iter().any(|x| x.is_infinite()), "input: an infinity");
+        self.met(xs.iter().any(|x| x.is_subnormal()), "input: a subnormal");
     }
 
     /// One tick by its four calls, as the 96 words that `Cart::record` gives.
@@ -470,6 +615,7 @@ impl Controller {
         fields[..used].copy_from_slice(&take::<13>(block, 24)[..used]);
         let cmd = (mode, fields);
 
+        self.count_inputs(block);
         let (outcome, taken, predicted) = self.sight(block);
         self.ticks += 1;
         let (plan, result) = if block.flag(3) {
@@ -538,6 +684,10 @@ impl Controller {
         self.met(
             result.is_ok() && wheels.iter().any(|w| w != w),
             "finish: a wheel speed NaN",
+        );
+        self.met(
+            result.is_ok() && wheels.iter().any(|w| w.is_infinite()),
+            "finish: a wheel speed infinite",
         );
         out.try_into().unwrap()
     }

@@ -11,6 +11,7 @@ use Rattle.tracking.specs.declared.TrackingDivergenceState.the-variants.{Normal
 use Rattle.tracking.specs.Setpoints.{posePid}
 use Rattle.body_controller.specs.declared.BodyController.{BodyController}
 use Rattle.body_controller.specs.declared.Choices.{Choices}
+use Rattle.body_controller.specs.declared.Kept.{Kept}
 use Rattle.body_controller.specs.declared.NewAnswer.{NewAnswer}
 use Rattle.body_controller.specs.declared.NewAnswer.the-variants.{Made, Refused}
 use Rattle.tick_parts.specs.declared.Outputs.{Outputs}
@@ -68,4 +69,17 @@ inTurn c turn = record {
   outputs = c .outputs;
   ticks = c .ticks;
   counts = c .counts;
+}
+
+-- ---- for a reader
+
+-- each part as the controller has it
+unfoldable pub keptOf : BodyController → Kept
+keptOf c = record {
+  vision = c .vision;
+  memory = c .memory;
+  «pose_pid_controller» = c .«pose_pid_controller»;
+  «state_estimate» = c .«state_estimate»;
+  «prev_mode» = c .«prev_mode»;
+  outputs = c .outputs;
 }

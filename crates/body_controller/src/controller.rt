@@ -3,10 +3,11 @@ ghost use mathlib.Core.Path.{_≡_};
 ghost use Rattle.tick_length.specs.TickLength.{refusalOf};
 ghost use Rattle.vision_gate.specs.Vision.{active};
 ghost use Rattle.tracking.specs.Recovery.{isRecovering};
-ghost use Rattle.body_controller.specs.Controller.{started, newOf, newNumber, inTurn};
+ghost use Rattle.body_controller.specs.Controller.{started, newOf, newNumber, inTurn, keptOf};
 ghost use Rattle.body_controller.specs.Reset.{contextReset, resetOf};
 use crate::BodyController;
 use crate::Choices;
+use crate::Kept;
 use crate::NewAnswer;
 use crate::Phase;
 use crate::Turn;
@@ -96,6 +97,24 @@ impl BodyController {
         let phase = self.phase;
         let state = phase.state;
         state.recovering()
+    }
+
+    pub fn kept(self) -> Kept
+        ensures { λ r. ⌜ r ≡ keptOf self ⌝ }
+    {
+        let vision = self.vision;
+        let memory = self.memory;
+        let pid = self.pose_pid_controller;
+        let estimate = self.state_estimate;
+        let outputs = self.outputs;
+        Kept {
+            vision,
+            memory,
+            pose_pid_controller: pid,
+            state_estimate: estimate,
+            prev_mode: self.prev_mode,
+            outputs,
+        }
     }
 
     // The turn passed on.

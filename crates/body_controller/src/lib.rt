@@ -47,6 +47,16 @@ pub struct BodyController {
     pub(crate) counts: Counts,
 }
 
+// What a controller keeps from tick to tick beside turn, marks and counts, for a reader to compare.
+pub struct Kept {
+    pub vision: Vision,
+    pub memory: Memory,
+    pub pose_pid_controller: PidController3,
+    pub state_estimate: Vector6f,
+    pub prev_mode: u32,
+    pub outputs: Outputs,
+}
+
 // A controller, or document 01's refusal 1.
 pub enum NewAnswer {
     Made(BodyController),

@@ -1,8 +1,10 @@
 //! Runs the firmware's tick on blocks from standard input.
 //!
 //! `ticks` prints what document 01's program `drive` prints. `ticks --full`
-//! writes 96 words for each tick instead; with `--reset-every N` the controller
-//! is reset before each tick whose number is a multiple of N.
+//! writes 96 words for each block instead, as `tick_words` does; with
+//! `--reset-every N` the controller is reset before each tick whose number is a
+//! multiple of N. With `--passes` a refused block does not end the run: the next
+//! block begins another pass.
 
 use oracle::block::{Block, BYTES};
 use oracle::cart::{last_line, Cart};
@@ -12,18 +14,21 @@ const MOST_TICKS: u32 = 16_777_216;
 
 struct Options {
     full: bool,
+    passes: bool,
     reset_every: u32,
 }
 
 fn options() -> Option<Options> {
     let mut options = Options {
         full: false,
+        passes: false,
         reset_every: 0,
     };
     let mut args = std::env::args().skip(1);
     while let Some(arg) = args.next() {
         match arg.as_str() {
             "--full" => options.full = true,
+            "--passes" => options.passes = true,
             "--reset-every" => options.reset_every = args.next()?.parse().ok()?,
             _ => return None,
         }
@@ -38,6 +43,32 @@ fn next_block(input: &mut impl Read) -> io::Result<Vec<u8>> {
     Ok(bytes)
 }
 
+fn accepted(bytes: &[u8], cart: &Option<Cart>) -> Result<Block, u32> {
+    let next = cart.as_ref().map_or(0, |c| c.ticks);
+    let block = Block::read(bytes)?;
+    match block.refusal(cart.as_ref().map(|c| c.k), next) {
+        Some(n) => Err(n),
+        None if next >= MOST_TICKS => Err(3),
+        None => Ok(block),
+    }
+}
+
+fn write_words(output: &mut impl Write, words: &[u32; 96]) -> io::Result<()> {
+    let mut bytes = [0; 384];
+    for (to, w) in bytes.chunks_exact_mut(4).zip(words) {
+        to.copy_from_slice(&w.to_le_bytes());
+    }
+    output.write_all(&bytes)
+}
+
+fn write_last(output: &mut impl Write, cart: &Option<Cart>) -> io::Result<()> {
+    let last = match cart {
+        Some(cart) => cart.last_line(),
+        None => last_line(0, &[0; 8]),
+    };
+    writeln!(output, "{last}")
+}
+
 fn run(options: Options) -> io::Result<()> {
     let mut input = io::BufReader::with_capacity(1 << 16, io::stdin().lock());
     let mut output = BufWriter::with_capacity(1 << 16, io::stdout().lock());
@@ -47,41 +78,37 @@ fn run(options: Options) -> io::Result<()> {
         if bytes.is_empty() {
             break;
         }
-        let next = cart.as_ref().map_or(0, |c| c.ticks);
-        let k = cart.as_ref().map(|c| c.k);
-        let accepted = Block::read(&bytes).and_then(|block| match block.refusal(k, next) {
-            Some(n) => Err(n),
-            None if next >= MOST_TICKS => Err(3),
-            None => Ok(block),
-        });
-        let block = match accepted {
-            Ok(block) => block,
+        match accepted(&bytes, &cart) {
+            Ok(block) => {
+                let cart = cart.get_or_insert_with(|| Cart::new(block.k()));
+                if options.reset_every != 0 && cart.ticks % options.reset_every == 0 {
+                    cart.body.reset();
+                }
+                let answer = cart.tick(&block);
+                if options.full {
+                    write_words(&mut output, &cart.record(&answer))?;
+                } else {
+                    writeln!(output, "{}", cart.line(&answer))?;
+                }
+            }
             Err(n) => {
-                if !options.full {
+                if options.full {
+                    write_words(&mut output, &Cart::refused(cart.take(), n))?;
+                } else {
+                    let next = cart.as_ref().map_or(0, |c| c.ticks);
                     writeln!(output, "{next} ! {n}")?;
                 }
-                break;
+                if !options.passes {
+                    break;
+                }
+                if !options.full {
+                    write_last(&mut output, &cart.take())?;
+                }
             }
-        };
-        let cart = cart.get_or_insert_with(|| Cart::new(block.k()));
-        if options.reset_every != 0 && cart.ticks % options.reset_every == 0 {
-            cart.body.reset();
-        }
-        let answer = cart.tick(&block);
-        if options.full {
-            for w in cart.record(&answer) {
-                output.write_all(&w.to_le_bytes())?;
-            }
-        } else {
-            writeln!(output, "{}", cart.line(&answer))?;
         }
     }
     if !options.full {
-        let last = match &cart {
-            Some(cart) => cart.last_line(),
-            None => last_line(0, &[0; 8]),
-        };
-        writeln!(output, "{last}")?;
+        write_last(&mut output, &cart)?;
     }
     output.flush()
 }
@@ -90,7 +117,7 @@ fn main() -> io::Result<()> {
     match options() {
         Some(options) => run(options),
         None => {
-            eprintln!("usage: ticks [--full] [--reset-every N] < BLOCKS");
+            eprintln!("usage: ticks [--full] [--passes] [--reset-every N] < BLOCKS");
             std::process::exit(2)
         }
     }

@@ -1,0 +1,69 @@
+// The words of the answers of sight, plan and finish; steer's is one vector.
+use crate::put::mark;
+use crate::put::put_vec3;
+use crate::put::put_vec4;
+use crate::put::put_vec6;
+use body_controller::Finished;
+use body_controller::Sighted;
+use ieee754::bits::to_bits;
+use maneuvers::PlanAnswer;
+use tick_parts::Outputs;
+use vision_gate::GateAction;
+
+// The outcome's place in document 01's order, Q to R.
+fn outcome(action: GateAction) -> u32 {
+    match action {
+        GateAction::NoVision => 0,
+        GateAction::Accumulate => 1,
+        GateAction::SeedComplete => 2,
+        GateAction::SeedReset => 3,
+        GateAction::Accept => 4,
+        GateAction::AcceptJump => 5,
+        GateAction::FirstReject => 6,
+        GateAction::Reject => 7,
+    }
+}
+
+pub(crate) fn put_sighted(words: &mut [u32; 96], s: Sighted) {
+    let action = s.action;
+    let m = s.measurement;
+    words[1] = outcome(action);
+    put_vec3(words, 3, m.vision_pose);
+    put_vec4(words, 6, m.wheel_vel);
+    words[10] = to_bits(m.gyro_theta);
+    words[11] = mark(s.effective_vision_update);
+    put_vec6(words, 12, s.state_prediction);
+}
+
+pub(crate) fn put_plan(words: &mut [u32; 96], answer: PlanAnswer) {
+    match answer {
+        PlanAnswer::Hold => {
+            words[18] = 0;
+        }
+        PlanAnswer::NoVision => {
+            words[18] = 1;
+        }
+        PlanAnswer::Keep => {
+            words[18] = 2;
+        }
+        PlanAnswer::NewPlan(seed) => {
+            words[18] = 3;
+            put_vec6(words, 19, seed);
+        }
+    }
+}
+
+pub(crate) fn put_outputs(words: &mut [u32; 96], o: Outputs) {
+    put_vec3(words, 28, o.body_twist_out);
+    put_vec3(words, 31, o.body_accel_out);
+    put_vec3(words, 34, o.body_accel_out_fric_comp);
+    put_vec4(words, 37, o.wheel_vel_out);
+    put_vec4(words, 41, o.wheel_torque_out);
+}
+
+pub(crate) fn put_finished(words: &mut [u32; 96], f: Finished) {
+    put_outputs(words, f.outputs);
+    words[45] = mark(f.vel_clamped);
+    words[46] = mark(f.accel_clamped);
+    words[47] = mark(f.wheels_disabled);
+}

@@ -1,0 +1,129 @@
+// The words of what a tick leaves in the controller.
+use crate::answers::put_outputs;
+use crate::put::mark;
+use crate::put::put_vec3;
+use crate::put::put_vec6;
+use body_controller::BodyController;
+use body_controller::Kept;
+use ieee754::bits::to_bits;
+use maneuvers::GlobalPosition;
+use maneuvers::HeadingLine;
+use maneuvers::HeldSample;
+use maneuvers::ManeuverCommand;
+use maneuvers::PrevCommand;
+use pid::PidController3;
+use vision_gate::Seeding;
+use vision_gate::VisionGateState;
+
+fn put_seeding(words: &mut [u32; 96], s: Seeding) {
+    let sum = s.pos_sum;
+    let squares = s.pos_sq_sum;
+    words[49] = s.n;
+    words[50] = to_bits(sum.x);
+    words[51] = to_bits(sum.y);
+    words[52] = to_bits(squares.x);
+    words[53] = to_bits(squares.y);
+}
+
+fn put_gate(words: &mut [u32; 96], gate: VisionGateState) {
+    match gate {
+        VisionGateState::Seeding(s) => put_seeding(words, s),
+        VisionGateState::Tracking(t) => {
+            words[48] = 1;
+            words[54] = to_bits(t);
+        }
+    }
+}
+
+fn put_held(words: &mut [u32; 96], held: HeldSample) {
+    match held {
+        HeldSample::Absent => {}
+        HeldSample::Held(sample) => {
+            words[58] = 1;
+            put_vec6(words, 59, sample.state);
+            put_vec3(words, 65, sample.accel);
+        }
+    }
+}
+
+fn put_position(words: &mut [u32; 96], p: GlobalPosition) {
+    words[68] = 2;
+    put_vec3(words, 69, p.target_pose);
+    words[72] = to_bits(p.max_linear_vel);
+    words[73] = to_bits(p.max_angular_vel);
+    words[74] = to_bits(p.max_linear_acc);
+    words[75] = to_bits(p.max_angular_acc);
+}
+
+fn put_line(words: &mut [u32; 96], l: HeadingLine) {
+    words[68] = 3;
+    words[69] = to_bits(l.global_theta);
+    words[70] = to_bits(l.start_x);
+    words[71] = to_bits(l.start_y);
+    words[72] = to_bits(l.dir_x);
+    words[73] = to_bits(l.dir_y);
+    words[74] = to_bits(l.line_velocity);
+    words[75] = to_bits(l.max_vel_colinear);
+    words[76] = to_bits(l.max_vel_perp);
+    words[77] = to_bits(l.max_vel_angular);
+    words[78] = to_bits(l.max_accel_colinear);
+    words[79] = to_bits(l.max_accel_perp);
+    words[80] = to_bits(l.max_accel_angular);
+    words[81] = to_bits(l.colinear_start_thresh);
+}
+
+// Off and brake are never a previous command: their modes hold.
+fn put_command(words: &mut [u32; 96], cmd: ManeuverCommand) {
+    match cmd {
+        ManeuverCommand::Off => {
+            words[68] = 0xffff_ffff;
+        }
+        ManeuverCommand::Brake => {
+            words[68] = 0xffff_ffff;
+        }
+        ManeuverCommand::GlobalPosition(p) => put_position(words, p),
+        ManeuverCommand::HeadingLine(l) => put_line(words, l),
+    }
+}
+
+fn put_previous(words: &mut [u32; 96], prev: PrevCommand) {
+    match prev {
+        PrevCommand::Absent => {}
+        PrevCommand::Was(cmd) => put_command(words, cmd),
+    }
+}
+
+fn put_pid(words: &mut [u32; 96], pid: PidController3) {
+    let x = pid.x;
+    let y = pid.y;
+    let z = pid.z;
+    words[89] = to_bits(x.prev_error);
+    words[90] = to_bits(y.prev_error);
+    words[91] = to_bits(z.prev_error);
+    words[92] = to_bits(x.integrated_error);
+    words[93] = to_bits(y.integrated_error);
+    words[94] = to_bits(z.integrated_error);
+}
+
+fn put_kept(words: &mut [u32; 96], k: Kept) {
+    let vision = k.vision;
+    let gate = vision.gate;
+    let memory = k.memory;
+    let held = memory.held;
+    let prev_cmd = memory.prev_cmd;
+    put_outputs(words, k.outputs);
+    put_gate(words, gate);
+    words[55] = to_bits(vision.time_since_vision_update_s);
+    put_held(words, held);
+    put_previous(words, prev_cmd);
+    words[82] = k.prev_mode;
+    put_vec6(words, 83, k.state_estimate);
+    put_pid(words, k.pose_pid_controller);
+}
+
+pub(crate) fn put_state(words: &mut [u32; 96], c: BodyController) {
+    words[47] = mark(c.wheels_disabled());
+    words[56] = mark(c.vision_active());
+    words[57] = mark(c.tracking_divergence_recovery_active());
+    put_kept(words, c.kept());
+}
