@@ -18,10 +18,12 @@ fn refuse(pass: Pass, refusal: u8, words: &mut [u32; 96]) -> Pass {
     words[1] = REFUSED;
     words[2] = refusal as u32;
     match pass {
-        Pass::Empty => Pass::Empty,
+        Pass::Empty => {
+            return Pass::Empty;
+        }
         Pass::Driving(c) => {
             put_state(words, c.reset());
-            Pass::Empty
+            return Pass::Empty;
         }
     }
 }
@@ -30,10 +32,9 @@ fn run(c: BodyController, b: TickBlock, words: &mut [u32; 96]) -> Pass {
     let ran = run_tick(c, b, words);
     let after = ran.controller;
     if ran.refusal == 0 {
-        Pass::Driving(after)
-    } else {
-        refuse(Pass::Driving(after), ran.refusal, words)
+        return Pass::Driving(after);
     }
+    refuse(Pass::Driving(after), ran.refusal, words)
 }
 
 // The first block of a pass: its number must be 0, and its k makes the controller.
@@ -42,12 +43,15 @@ fn begin(b: TickBlock, words: &mut [u32; 96]) -> Pass {
     if b.number == 0 {
         let made = BodyController::new(tick.k as u32);
         match made {
-            NewAnswer::Made(c) => run(c, b, words),
-            NewAnswer::Refused(r) => refuse(Pass::Empty, r.number(), words),
+            NewAnswer::Made(c) => {
+                return run(c, b, words);
+            }
+            NewAnswer::Refused(r) => {
+                return refuse(Pass::Empty, r.number(), words);
+            }
         }
-    } else {
-        refuse(Pass::Empty, 10, words)
     }
+    refuse(Pass::Empty, 10, words)
 }
 
 // A later block: 9, then 10.
@@ -56,26 +60,32 @@ fn go_on(c: BodyController, b: TickBlock, words: &mut [u32; 96]) -> Pass {
     let own = c.tick_length();
     if tick.k == own.k {
         if b.number == c.ticks() {
-            run(c, b, words)
-        } else {
-            refuse(Pass::Driving(c), 10, words)
+            return run(c, b, words);
         }
-    } else {
-        refuse(Pass::Driving(c), 9, words)
+        return refuse(Pass::Driving(c), 10, words);
     }
+    refuse(Pass::Driving(c), 9, words)
 }
 
 fn take(pass: Pass, b: TickBlock, words: &mut [u32; 96]) -> Pass {
     match pass {
-        Pass::Empty => begin(b, words),
-        Pass::Driving(c) => go_on(c, b, words),
+        Pass::Empty => {
+            return begin(b, words);
+        }
+        Pass::Driving(c) => {
+            return go_on(c, b, words);
+        }
     }
 }
 
 pub(crate) fn run_block(pass: Pass, block: &[u8], words: &mut [u32; 96]) -> Pass {
     let answer = read(block);
     match answer {
-        BlockAnswer::Read(b) => take(pass, b, words),
-        BlockAnswer::Refused(r) => refuse(pass, r.number(), words),
+        BlockAnswer::Read(b) => {
+            return take(pass, b, words);
+        }
+        BlockAnswer::Refused(r) => {
+            return refuse(pass, r.number(), words);
+        }
     }
 }

@@ -36,9 +36,11 @@ fn finish(c: BodyController, i: FinishInput, words: &mut [u32; 96]) -> BodyContr
         FinishAnswer::Accepted(f) => {
             put_state(words, after);
             put_finished(words, f);
-            after
+            return after;
         }
-        FinishAnswer::Refused(r) => end(after, r.number(), words),
+        FinishAnswer::Refused(r) => {
+            return end(after, r.number(), words);
+        }
     }
 }
 
@@ -54,9 +56,11 @@ fn steer(
     match answer {
         SteerAnswer::Accepted(twist) => {
             put_vec3(words, 25, twist);
-            finish(after, last, words)
+            return finish(after, last, words);
         }
-        SteerAnswer::Refused(r) => end(after, r.number(), words),
+        SteerAnswer::Refused(r) => {
+            return end(after, r.number(), words);
+        }
     }
 }
 
@@ -67,11 +71,11 @@ fn plan(c: BodyController, rest: Rest, words: &mut [u32; 96]) -> BodyController 
     match answer {
         PlanCallAnswer::Accepted(a) => {
             put_plan(words, a);
-            steer(after, rest.steer, rest.finish, words)
+            return steer(after, rest.steer, rest.finish, words);
         }
         PlanCallAnswer::Refused(r) => {
             words[18] = 4;
-            end(after, r.number(), words)
+            return end(after, r.number(), words);
         }
     }
 }
@@ -92,14 +96,16 @@ pub(crate) fn run_tick(c: BodyController, b: TickBlock, words: &mut [u32; 96]) -
                 steer: steer_input,
                 finish: finish_input,
             };
-            Ran {
+            return Ran {
                 controller: plan(after, rest, words),
                 refusal: 0,
-            }
+            };
         }
-        SightAnswer::Refused(r) => Ran {
-            controller: after,
-            refusal: r.number(),
-        },
+        SightAnswer::Refused(r) => {
+            return Ran {
+                controller: after,
+                refusal: r.number(),
+            };
+        }
     }
 }
