@@ -10,10 +10,11 @@ use Rattle.first_order_lag.specs.declared.FirstOrderLagAnswer.{FirstOrderLagAns
 use Rattle.first_order_lag.specs.declared.FirstOrderLagAnswer.the-variants.{Made, Refused}
 use Rattle.first_order_lag.specs.FirstOrderLag.{lagOf, steppedOf, invertedOf, resetOf}
 use Rattle.block_words.specs.Word.{wordAt}
+use Rattle.block_floats.specs.Floats.{vector2At}
 use Rattle.rust_vectors.specs.declared.subject.Subject.{Subject}
 use Rattle.rust_vectors.specs.declared.subject.Subject.the-variants as subject
 use Rattle.rust_vectors.specs.declared.subject.Step.{Step}
-use Rattle.rust_vectors.specs.Words.{word, vector2At, words2}
+use Rattle.rust_vectors.specs.Words.{word, words2}
 use Rattle.rust_vectors.specs.Step.{byKind3}
 
 -- ---- the header: k, dt in µs, the number of steps, dt and the least time constant in s, the number of calls

@@ -3,11 +3,11 @@ ghost use mathlib.Core.Path.{_≡_};
 ghost use Rattle.rust_vectors.specs.Brake.{fresh, answer, step};
 use crate::subject::Step;
 use crate::subject::Subject;
-use crate::words::vector4_at;
 use crate::words::words4;
 use active_brake::ActiveBrakeController;
 use active_brake::BrakeAnswer;
 use active_brake::BrakeMade;
+use block_floats::vec4_at;
 use block_words::word_at;
 use linear::Vector4f;
 
@@ -27,7 +27,7 @@ fn answer(b: ActiveBrakeController, call: &[u8]) -> BrakeAnswer
     ensures { λ r. ⌜ r ≡ answer b (now (call .entry)) ⌝ }
 {
     match word_at(call, 0) {
-        0 => b.compute(vector4_at(call, 1)),
+        0 => b.compute(vec4_at(call, 1)),
         _ => BrakeAnswer {
             currents: Vector4f::zeros(),
             controller: b.reset(),

@@ -3,8 +3,8 @@ ghost use mathlib.Core.Path.{_≡_};
 ghost use Rattle.rust_vectors.specs.Lag.{asWanted, fresh, answered, step};
 use crate::subject::Step;
 use crate::subject::Subject;
-use crate::words::vector2_at;
 use crate::words::words2;
+use block_floats::vec2_at;
 use block_words::word_at;
 use first_order_lag::FirstOrderLag;
 use first_order_lag::FirstOrderLagAnswer;
@@ -49,7 +49,7 @@ fn answered(l: FirstOrderLag, output: Vector2f) -> Step
 pub fn step(l: FirstOrderLag, call: &[u8]) -> Step
     ensures { λ r. ⌜ r ≡ step l (now (call .entry)) ⌝ }
 {
-    let input = vector2_at(call, 1);
+    let input = vec2_at(call, 1);
     match word_at(call, 0) {
         0 => answered(l.step(input), Vector2f::zeros()),
         1 => answered(l, l.invert(input)),

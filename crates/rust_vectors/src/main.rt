@@ -3,7 +3,7 @@
 // word. Prints a line for each list, and the first mismatches.
 mod layout; // layout.rt: how a list is laid out
 mod input; // input.rt: a record, as it is read
-mod words; // words.rt: the floats of a record, and the words of an answer
+mod words; // words.rt: the words that an answer is compared by
 mod pids; // pids.rt: the lists of the PID controllers
 mod brake; // brake.rt: the list of the active brake
 mod lag; // lag.rt: the list of the encoder lag

@@ -2,7 +2,7 @@
 mod check; // check.rt: the check and the spare words
 mod inputs; // inputs.rt: the inputs of the four calls
 mod layout; // layout.rt: where the words lie
-mod parts; // parts.rt: floats, vectors and matrices
+mod parts; // parts.rt: state, samples and matrices
 
 ghost use mathlib.Core.Path.{_≡_};
 ghost use Rattle.tick_block.specs.Block.{tickBlock, inputsRead, formatRead, blockRead, refusalNumber, answerNumber, blockRefusal};

@@ -6,8 +6,8 @@ use Rattle.rust_vectors.specs.Lag.{step}
 use Rattle.rust_vectors.proofs.lag.step.Statement.{statement}
 use Rattle.rust_vectors.proofs.lag.step.Tie as tie
 
-vector2-at-requires : tie.Need-vector2-at-requires
-vector2-at-requires c κs = search needs
+vec2-at-requires : tie.Need-vec2-at-requires
+vec2-at-requires c κs = search needs
 
 word-at-requires : tie.Need-word-at-requires
 word-at-requires c κs = search needs
@@ -38,11 +38,11 @@ answered-requires-3 c κs = search needs
 
 returns : tie.Need-returns
 unfolding step
-returns c = simp (c .answered .ensures, c .before .zeros .ensures, c .before .before .step .ensures, c .before .before .before .before .before .vector2-at .ensures, sym (c .before .before .before .before .word-at .ensures) ∙ c .before .before .before .match .keys1)
+returns c = simp (c .answered .ensures, c .before .zeros .ensures, c .before .before .step .ensures, c .before .before .before .before .before .vec2-at .ensures, sym (c .before .before .before .before .word-at .ensures) ∙ c .before .before .before .match .keys1)
 
 returns-2 : tie.Need-returns-2
 unfolding step
-returns-2 c = simp (c .answered2 .ensures, c .before .invert .ensures, c .before .before .before .before .vector2-at .ensures, sym (c .before .before .before .word-at .ensures) ∙ c .before .before .match .keys2)
+returns-2 c = simp (c .answered2 .ensures, c .before .invert .ensures, c .before .before .before .before .vec2-at .ensures, sym (c .before .before .before .word-at .ensures) ∙ c .before .before .match .keys2)
 
 returns-3 : tie.Need-returns-3
 unfolding step
@@ -52,7 +52,7 @@ pub step-spec : {M : Type 1} → statement M
 step-spec =
     tie.close
     (tie.spec
-    vector2-at-requires
+    vec2-at-requires
     word-at-requires
     step-requires
     zeros-requires

@@ -1,8 +1,8 @@
--- `rust_vectors::words::vector4_at` meets its contract. Assumes nothing.
+-- `block_floats::vec4_at` meets its contract. Assumes nothing.
 use borrow.Author.Needs.{needs}
-use Rattle.rust_vectors.specs.Words.{vector4At}
-use Rattle.rust_vectors.proofs.words.vector4_at.Statement.{statement}
-use Rattle.rust_vectors.proofs.words.vector4_at.Tie as tie
+use Rattle.block_floats.specs.Floats.{vector4At}
+use Rattle.block_floats.proofs.vec4_at.Statement.{statement}
+use Rattle.block_floats.proofs.vec4_at.Tie as tie
 
 float-at-requires : tie.Need-float-at-requires
 float-at-requires c κs = search needs
@@ -29,8 +29,8 @@ returns : tie.Need-returns
 unfolding vector4At
 returns c = simp (c .float-at4 .ensures, c .before .float-at3 .ensures, c .before .before .float-at2 .ensures, c .before .before .before .float-at .ensures)
 
-pub vector4-at-spec : {M : Type 1} → statement M
-vector4-at-spec =
+pub vec4-at-spec : {M : Type 1} → statement M
+vec4-at-spec =
     tie.close
     (tie.spec
     float-at-requires

@@ -1,8 +1,8 @@
--- `tick_block::parts::float_at` meets its contract. Assumes nothing.
+-- `block_floats::float_at` meets its contract. Assumes nothing.
 use borrow.Author.Needs.{needs}
-use Rattle.tick_block.specs.Parts.{floatAt}
-use Rattle.tick_block.proofs.parts.float_at.Statement.{statement}
-use Rattle.tick_block.proofs.parts.float_at.Tie as tie
+use Rattle.block_floats.specs.Floats.{floatAt}
+use Rattle.block_floats.proofs.float_at.Statement.{statement}
+use Rattle.block_floats.proofs.float_at.Tie as tie
 
 word-at-requires : tie.Need-word-at-requires
 word-at-requires c κs = search needs

@@ -1,8 +1,8 @@
--- `tick_block::parts::vec3_at` meets its contract. Assumes nothing.
+-- `block_floats::vec3_at` meets its contract. Assumes nothing.
 use borrow.Author.Needs.{needs}
-use Rattle.tick_block.specs.Parts.{vector3At}
-use Rattle.tick_block.proofs.parts.vec3_at.Statement.{statement}
-use Rattle.tick_block.proofs.parts.vec3_at.Tie as tie
+use Rattle.block_floats.specs.Floats.{vector3At}
+use Rattle.block_floats.proofs.vec3_at.Statement.{statement}
+use Rattle.block_floats.proofs.vec3_at.Tie as tie
 
 float-at-requires : tie.Need-float-at-requires
 float-at-requires c κs = search needs
