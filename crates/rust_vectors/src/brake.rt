@@ -12,7 +12,7 @@ use block_words::word_at;
 use linear::Vector4f;
 
 // A header has k and the number of calls.
-pub fn fresh(header: &[u8]) -> Subject
+pub(crate) fn fresh(header: &[u8]) -> Subject
     ensures { λ r. ⌜ r ≡ fresh (now (header .entry)) ⌝ }
 {
     match ActiveBrakeController::new(word_at(header, 0)) {
@@ -35,7 +35,7 @@ fn answer(b: ActiveBrakeController, call: &[u8]) -> BrakeAnswer
     }
 }
 
-pub fn step(b: ActiveBrakeController, call: &[u8]) -> Step
+pub(crate) fn step(b: ActiveBrakeController, call: &[u8]) -> Step
     ensures { λ r. ⌜ r ≡ step b (now (call .entry)) ⌝ }
 {
     let a = answer(b, call);

@@ -26,7 +26,7 @@ fn as_wanted(l: FirstOrderLag, header: &[u8]) -> Subject
     }
 }
 
-pub fn fresh(header: &[u8]) -> Subject
+pub(crate) fn fresh(header: &[u8]) -> Subject
     ensures { λ r. ⌜ r ≡ fresh (now (header .entry)) ⌝ }
 {
     match FirstOrderLag::new(word_at(header, 0)) {
@@ -46,7 +46,7 @@ fn answered(l: FirstOrderLag, output: Vector2f) -> Step
 
 // A call has its kind and the input, and then what is compared. The last kind is reset. The output
 // is that of `invert`, and otherwise wanted as 0.
-pub fn step(l: FirstOrderLag, call: &[u8]) -> Step
+pub(crate) fn step(l: FirstOrderLag, call: &[u8]) -> Step
     ensures { λ r. ⌜ r ≡ step l (now (call .entry)) ⌝ }
 {
     let input = vec2_at(call, 1);

@@ -17,10 +17,10 @@ use input::read_record;
 use layout::Layout;
 use layout::ListOf;
 use layout::layout_of;
+use libc::STDOUT_FILENO;
 use subject::Subject;
 use subject::fresh;
 use subject::next_step;
-use vector_run::report;
 use vector_run::report::Tally;
 
 // A run in progress.
@@ -127,14 +127,23 @@ fn run_list(fd: i32, list: ListOf) -> Tally {
     }
 }
 
+// Prints a list's line.
+fn print_line(name: &[u8], tally: Tally) {
+    let mut text = [0u8; 80];
+    let n = tally.line(&mut text);
+    io::write_all(STDOUT_FILENO, name);
+    io::write_all(STDOUT_FILENO, &text[..n]);
+}
+
 // Runs the list in the file `name`, and prints its line.
 fn run(list: ListOf, name: &[u8]) {
     let fd = os::open_read(name);
     if fd < 0 {
-        report::missing(name);
+        io::write_all(STDOUT_FILENO, name);
+        io::write_all(STDOUT_FILENO, b" cannot be opened\n");
         return;
     }
-    report::total(name, run_list(fd, list));
+    print_line(name, run_list(fd, list));
     libc::close(fd);
 }
 

@@ -71,13 +71,13 @@ fn axis_at(header: &[u8], n: u8, i: u8) -> PidController
     PidController::new(gain, thresh, limits_at(header, n, i))
 }
 
-pub fn fresh1(header: &[u8]) -> Subject
+pub(crate) fn fresh1(header: &[u8]) -> Subject
     ensures { λ r. ⌜ r ≡ fresh1 (now (header .entry)) ⌝ }
 {
     Subject::Pid1(axis_at(header, 1, 0))
 }
 
-pub fn fresh3(header: &[u8]) -> Subject
+pub(crate) fn fresh3(header: &[u8]) -> Subject
     ensures { λ r. ⌜ r ≡ fresh3 (now (header .entry)) ⌝ }
 {
     Subject::Pid3(PidController3 {
@@ -87,7 +87,7 @@ pub fn fresh3(header: &[u8]) -> Subject
     })
 }
 
-pub fn fresh4(header: &[u8]) -> Subject
+pub(crate) fn fresh4(header: &[u8]) -> Subject
     ensures { λ r. ⌜ r ≡ fresh4 (now (header .entry)) ⌝ }
 {
     Subject::Pid4(PidController4 {
@@ -148,7 +148,7 @@ fn answer4(c: PidController4, call: &[u8]) -> PidAnswer4
     }
 }
 
-pub fn step1(c: PidController, call: &[u8]) -> Step
+pub(crate) fn step1(c: PidController, call: &[u8]) -> Step
     ensures { λ r. ⌜ r ≡ step1 c (now (call .entry)) ⌝ }
 {
     let a = answer1(c, call);
@@ -159,7 +159,7 @@ pub fn step1(c: PidController, call: &[u8]) -> Step
     }
 }
 
-pub fn step3(c: PidController3, call: &[u8]) -> Step
+pub(crate) fn step3(c: PidController3, call: &[u8]) -> Step
     ensures { λ r. ⌜ r ≡ step3 c (now (call .entry)) ⌝ }
 {
     let a = answer3(c, call);
@@ -170,7 +170,7 @@ pub fn step3(c: PidController3, call: &[u8]) -> Step
     }
 }
 
-pub fn step4(c: PidController4, call: &[u8]) -> Step
+pub(crate) fn step4(c: PidController4, call: &[u8]) -> Step
     ensures { λ r. ⌜ r ≡ step4 c (now (call .entry)) ⌝ }
 {
     let a = answer4(c, call);

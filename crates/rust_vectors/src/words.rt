@@ -10,7 +10,7 @@ use pid::PidController3;
 use pid::PidController4;
 
 // What is compared after a call of one axis: the output, then what is remembered; then zeros.
-pub fn words1(output: f32, c: PidController) -> [u32; 12]
+pub(crate) fn words1(output: f32, c: PidController) -> [u32; 12]
     ensures { λ r. ⌜ r ≡ words1 output c ⌝ }
 {
     let o = to_bits(output);
@@ -20,7 +20,7 @@ pub fn words1(output: f32, c: PidController) -> [u32; 12]
 }
 
 // Of three axes: the outputs, the previous errors, the integrated errors.
-pub fn words3(output: Vector3f, c: PidController3) -> [u32; 12]
+pub(crate) fn words3(output: Vector3f, c: PidController3) -> [u32; 12]
     ensures { λ r. ⌜ r ≡ words3 output c ⌝ }
 {
     let x = words1(output.x, c.x);
@@ -43,7 +43,7 @@ pub fn words3(output: Vector3f, c: PidController3) -> [u32; 12]
 }
 
 // Of four axes.
-pub fn words4(output: Vector4f, c: PidController4) -> [u32; 12]
+pub(crate) fn words4(output: Vector4f, c: PidController4) -> [u32; 12]
     ensures { λ r. ⌜ r ≡ words4 output c ⌝ }
 {
     let x = words1(output.x, c.x);
@@ -67,7 +67,7 @@ pub fn words4(output: Vector4f, c: PidController4) -> [u32; 12]
 }
 
 // Of a lag: the output and the state; then zeros.
-pub fn words2(output: Vector2f, state: Vector2f) -> [u32; 12]
+pub(crate) fn words2(output: Vector2f, state: Vector2f) -> [u32; 12]
     ensures { λ r. ⌜ r ≡ words2 output state ⌝ }
 {
     let ox = to_bits(output.x);

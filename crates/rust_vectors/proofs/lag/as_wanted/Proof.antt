@@ -24,11 +24,17 @@ word-at-requires-3 c κs = search needs
 
 returns : tie.Need-returns
 unfolding asWanted
-returns c = rw (← c .before .before .word-at3 .ensures, ← c .before .before .before .to-bits2 .ensures, ← c .before .before .before .before .word-at2 .ensures, ← c .before .before .before .before .before .to-bits .ensures, ← c .before .before .before .before .before .before .word-at .ensures, c .if1 .taken)
+returns c =
+    let t-min = c .before .before in
+    let dt = t-min .before .before in
+    rw (← t-min .word-at3 .ensures, ← t-min .before .to-bits2 .ensures, ← dt .word-at2 .ensures, ← dt .before .to-bits .ensures, ← dt .before .before .word-at .ensures, c .if1 .taken)
 
 returns-2 : tie.Need-returns-2
 unfolding asWanted
-returns-2 c = rw (← c .before .before .word-at3 .ensures, ← c .before .before .before .to-bits2 .ensures, ← c .before .before .before .before .word-at2 .ensures, ← c .before .before .before .before .before .to-bits .ensures, ← c .before .before .before .before .before .before .word-at .ensures, c .if1 .left)
+returns-2 c =
+    let t-min = c .before .before in
+    let dt = t-min .before .before in
+    rw (← t-min .word-at3 .ensures, ← t-min .before .to-bits2 .ensures, ← dt .word-at2 .ensures, ← dt .before .to-bits .ensures, ← dt .before .before .word-at .ensures, c .if1 .left)
 
 pub as-wanted-spec : {M : Type 1} → statement M
 as-wanted-spec =
