@@ -14,8 +14,7 @@ pub fn float_at(block: &[u8], i: usize) -> f32
     from_bits(word_at(block, i))
 }
 
-// The vector whose entries are the words from `at` on. The first of them is a small number, so that
-// none of the others is too large for its type.
+// The vector whose entries are the words from `at` on, a number of 8 bits, so that no sum overflows.
 pub fn vec2_at(block: &[u8], at: u8) -> Vector2f
     ensures { λ r. ⌜ r ≡ vector2At (now (block .entry)) at ⌝ }
 {

@@ -1,4 +1,5 @@
-// Where the 128 words of a tick block lie, document 01, 'Records'. A part is named by its first word.
+// Where the 128 words of a tick block lie, document 01, 'Records'. A part is named by its first word,
+// a u8 where it has several, as `block_floats` reads it.
 
 // A block is 512 bytes.
 pub(crate) const BYTES: usize = 512;

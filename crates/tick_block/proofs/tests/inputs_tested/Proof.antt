@@ -1,8 +1,8 @@
--- `tick_block::read_inputs` meets its contract. Assumes nothing.
+-- `tick_block::tests::inputs_tested` meets its contract. Assumes nothing.
 use borrow.Author.Needs.{needs}
-use Rattle.tick_block.specs.Block.{inputsRead}
-use Rattle.tick_block.proofs.read_inputs.Statement.{statement}
-use Rattle.tick_block.proofs.read_inputs.Tie as tie
+use Rattle.tick_block.specs.Block.{inputsTested}
+use Rattle.tick_block.proofs.tests.inputs_tested.Statement.{statement}
+use Rattle.tick_block.proofs.tests.inputs_tested.Tie as tie
 
 word-at-requires : tie.Need-word-at-requires
 word-at-requires c κs = search needs
@@ -19,32 +19,29 @@ word-at-requires-2 c κs = search needs
 is-mode-requires : tie.Need-is-mode-requires
 is-mode-requires c κs = search needs
 
-tick-block-requires : tie.Need-tick-block-requires
-tick-block-requires c κs = search needs
-
 enum-told : tie.Need-enum-told
 enum-told c = search needs
 
 returns : tie.Need-returns
-unfolding inputsRead
+unfolding inputsTested
 returns c =
-    let mode = c .before .before .before in
+    let mode = c .before .before in
     let length = mode .before .before .before .before in
-    rw (c .tick-block .ensures, ← length .before .word-at .ensures, ← length .new .ensures .0, mode .before .before .answer .given .1, ← mode .word-at2 .ensures, ← c .before .before .is-mode .ensures, c .before .if1 .taken)
+    rw (← length .before .word-at .ensures, ← length .new .ensures .0, mode .before .before .answer .given .1, ← mode .word-at2 .ensures, ← c .before .is-mode .ensures, c .if1 .taken)
 
 returns-2 : tie.Need-returns-2
-unfolding inputsRead
+unfolding inputsTested
 returns-2 c =
     let mode = c .before .before in
     let length = mode .before .before .before .before in
     rw (← length .before .word-at .ensures, ← length .new .ensures .0, mode .before .before .answer .given .1, ← mode .word-at2 .ensures, ← c .before .is-mode .ensures, c .if1 .left)
 
 returns-3 : tie.Need-returns-3
-unfolding inputsRead
+unfolding inputsTested
 returns-3 c = rw (← c .before .before .before .word-at .ensures, ← c .before .before .new .ensures .0, c .enum-told .given .1)
 
-pub read-inputs-spec : {M : Type 1} → statement M
-read-inputs-spec =
+pub inputs-tested-spec : {M : Type 1} → statement M
+inputs-tested-spec =
     tie.close
     (tie.spec
     word-at-requires
@@ -52,7 +49,6 @@ read-inputs-spec =
     enum-known-answer
     word-at-requires-2
     is-mode-requires
-    tick-block-requires
     enum-told
     returns
     returns-2
