@@ -35,8 +35,12 @@ fn cut_short(tally: Tally) -> Tally {
     cut
 }
 
-// Counts a call, and shows it where it is among the first mismatches. A kind that is none is one.
-fn judge(tally: Tally, layout: Layout, words: &[u32; 12], call: &[u8]) -> Tally {
+// Counts a call, if it is whole, and shows it where it is among the first mismatches. A kind that is
+// none is one.
+fn judge(tally: Tally, layout: Layout, words: &[u32; 12], call: &[u8], whole: bool) -> Tally {
+    if !whole {
+        return cut_short(tally);
+    }
     let known = word_at(call, 0) < layout.kinds;
     if known & agrees(words, call, layout.compared) {
         return tally.count(1, 0);
@@ -47,29 +51,18 @@ fn judge(tally: Tally, layout: Layout, words: &[u32; 12], call: &[u8]) -> Tally 
     tally.count(1, 1)
 }
 
-// Makes one call.
-fn make_call(layout: Layout, p: Progress, call: &[u8]) -> Progress {
-    let before = p.subject;
-    let step = next_step(before, call);
-    let subject = step.subject;
-    let words = step.words;
-    Progress {
-        subject,
-        tally: judge(p.tally, layout, &words, call),
-    }
-}
-
 // Reads one call, and makes it.
 fn run_call(fd: i32, list: ListOf, p: Progress) -> Progress {
     let layout = layout_of(list);
     let read = read_record(fd, layout.call);
-    if read.whole {
-        let call = read.bytes;
-        make_call(layout, p, &call)
-    } else {
-        let mut cut = p;
-        cut.tally = cut_short(p.tally);
-        cut
+    let call = read.bytes;
+    let before = p.subject;
+    let step = next_step(before, &call);
+    let subject = step.subject;
+    let words = step.words;
+    Progress {
+        subject,
+        tally: judge(p.tally, layout, &words, &call, read.whole),
     }
 }
 
