@@ -17,7 +17,7 @@ pub enum Operation {
     Difference,
 }
 
-pub fn answer(op: Operation, argument: u32) -> u32
+pub(crate) fn answer(op: Operation, argument: u32) -> u32
     ensures { λ r. ⌜ r ≡ answerOf op argument ⌝ }
 {
     let x = from_bits(argument);

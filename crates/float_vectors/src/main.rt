@@ -5,9 +5,8 @@ mod record; // record.rt: an argument with the answer wanted, and how many of a 
 mod report; // report.rt: what is printed of a mismatch
 
 use answer::Operation;
+use libc::STDOUT_FILENO;
 use vector_run::report::Tally;
-use vector_run::report::missing;
-use vector_run::report::total;
 
 // Reads one block of a list, and adds its records and mismatches to `tally`.
 fn run_block(fd: i32, op: Operation, tally: Tally) -> Tally {
@@ -36,14 +35,23 @@ fn run_list(fd: i32, op: Operation) -> Tally {
     tally
 }
 
+// Prints a list's line.
+fn print_line(name: &[u8], tally: Tally) {
+    let mut text = [0u8; 80];
+    let n = tally.line(&mut text);
+    io::write_all(STDOUT_FILENO, name);
+    io::write_all(STDOUT_FILENO, &text[..n]);
+}
+
 // Runs the list in the file `name`, and prints its line.
 fn run(op: Operation, name: &[u8]) {
     let fd = os::open_read(name);
     if fd < 0 {
-        missing(name);
+        io::write_all(STDOUT_FILENO, name);
+        io::write_all(STDOUT_FILENO, b" cannot be opened\n");
         return;
     }
-    total(name, run_list(fd, op));
+    print_line(name, run_list(fd, op));
     libc::close(fd);
 }
 

@@ -8,14 +8,14 @@ use crate::answer::answer;
 use block_words::word_at;
 
 // Space for 1024 records.
-pub fn block() -> [u8; 8192]
+pub(crate) fn block() -> [u8; 8192]
     ensures { λ r. ⌜ 8192 ≡ length r ⌝ }
 {
     [0; 8192]
 }
 
 // Whether the answer to the argument of record i is another than the one wanted.
-pub fn is_mismatch(op: Operation, block: &[u8], i: usize) -> bool
+pub(crate) fn is_mismatch(op: Operation, block: &[u8], i: usize) -> bool
     requires { ⌜ i < length (now block) / 8 ⌝ }
     ensures { λ r. ⌜ r ≡ isMismatch op (now (block .entry)) i ⌝ }
 {
@@ -23,7 +23,7 @@ pub fn is_mismatch(op: Operation, block: &[u8], i: usize) -> bool
 }
 
 // How many of the block's records are mismatches.
-pub fn mismatches(op: Operation, block: &[u8]) -> usize
+pub(crate) fn mismatches(op: Operation, block: &[u8]) -> usize
     ensures { λ r. ⌜ r ≡ mismatchesIn op (now (block .entry)) (length (now (block .entry)) / 8) ⌝ }
 {
     let records = block.len() / 8;

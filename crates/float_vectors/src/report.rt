@@ -7,7 +7,12 @@ use crate::record::is_mismatch;
 use block_words::word_at;
 use libc::STDOUT_FILENO;
 use vector_run::report::Tally;
-use vector_run::report::print_word;
+
+// A name and a word in hex.
+fn print_word(name: &[u8], word: u32) {
+    io::write_all(STDOUT_FILENO, name);
+    io::print_hex(STDOUT_FILENO, word as u64, 8);
+}
 
 // The argument of record i, the answer to it and the answer wanted.
 fn show_record(op: Operation, block: &[u8], i: usize)
@@ -21,7 +26,7 @@ fn show_record(op: Operation, block: &[u8], i: usize)
 }
 
 // Shows the block's mismatches, the first ones of its list; `before` has those of earlier blocks.
-pub fn show(op: Operation, block: &[u8], before: Tally) {
+pub(crate) fn show(op: Operation, block: &[u8], before: Tally) {
     let mut left = before.left_to_show();
     let mut i = 0;
     while i < block.len() / 8 && left > 0 {

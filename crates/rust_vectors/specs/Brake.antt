@@ -8,10 +8,11 @@ use Rattle.active_brake.specs.declared.BrakeMade.{BrakeMade}
 use Rattle.active_brake.specs.declared.BrakeMade.the-variants.{Made, Refused}
 use Rattle.active_brake.specs.Brake.{brakeOf, computed, resetBrake}
 use Rattle.block_words.specs.Word.{wordAt}
+use Rattle.block_floats.specs.Floats.{vector4At}
 use Rattle.rust_vectors.specs.declared.subject.Subject.{Subject}
 use Rattle.rust_vectors.specs.declared.subject.Subject.the-variants as subject
 use Rattle.rust_vectors.specs.declared.subject.Step.{Step}
-use Rattle.rust_vectors.specs.Words.{vector4At, words4}
+use Rattle.rust_vectors.specs.Words.{words4}
 use Rattle.rust_vectors.specs.Step.{byKind2}
 
 -- a brake, or nothing

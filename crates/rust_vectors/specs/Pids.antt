@@ -18,10 +18,11 @@ use Rattle.pid.specs.declared.PidAnswer4.{PidAnswer4}
 use Rattle.pid.specs.Axis.{newController, calculated, calculatedWithDerivative, resetOf}
 use Rattle.pid.specs.Widths.{calculated3, calculated4, calculatedWithDerivative3, calculatedWithDerivative4, reset3, reset4}
 use Rattle.block_words.specs.Word.{wordAt}
+use Rattle.block_floats.specs.Floats.{floatAt, vector3At, vector4At}
 use Rattle.rust_vectors.specs.declared.subject.Subject.{Subject}
 use Rattle.rust_vectors.specs.declared.subject.Subject.the-variants.{Pid1, Pid3, Pid4}
 use Rattle.rust_vectors.specs.declared.subject.Step.{Step}
-use Rattle.rust_vectors.specs.Words.{floatAt, vector3At, vector4At, words1, words3, words4}
+use Rattle.rust_vectors.specs.Words.{words1, words3, words4}
 use Rattle.rust_vectors.specs.Step.{byKind3}
 
 -- ---- the header: the number of calls; the gains, axis by axis; whether there is a threshold, and one for each axis; whether there are limits, the low ones and the high ones

@@ -1,28 +1,13 @@
--- The floats of a record, and the words that an answer is compared by. Assumes nothing.
-use Prim.Native.Nat.{ℕ, _+_}
+-- The words that an answer is compared by. Assumes nothing.
+use Prim.Native.Nat.{ℕ}
 use mathlib.Core.List.{List, [], _∷_}
-use lib.Ieee.{Float, binary32, ofBits, toBits}
+use lib.Ieee.{Float, binary32, toBits}
 use Rattle.linear.specs.declared.Vector2f.{Vector2f}
 use Rattle.linear.specs.declared.Vector3f.{Vector3f}
 use Rattle.linear.specs.declared.Vector4f.{Vector4f}
 use Rattle.pid.specs.declared.PidController.{PidController}
 use Rattle.pid.specs.declared.PidController3.{PidController3}
 use Rattle.pid.specs.declared.PidController4.{PidController4}
-use Rattle.block_words.specs.Word.{wordAt}
-
--- the float whose bits are word i
-unfoldable pub floatAt : List ℕ → ℕ → Float
-floatAt s i = ofBits binary32 (wordAt s i)
-
--- the vector whose entries are the words from `at` on
-unfoldable pub vector2At : List ℕ → ℕ → Vector2f
-vector2At s at = record { x = floatAt s at; y = floatAt s (at + 1) }
-
-unfoldable pub vector3At : List ℕ → ℕ → Vector3f
-vector3At s at = record { x = floatAt s at; y = floatAt s (at + 1); z = floatAt s (at + 2) }
-
-unfoldable pub vector4At : List ℕ → ℕ → Vector4f
-vector4At s at = record { x = floatAt s at; y = floatAt s (at + 1); z = floatAt s (at + 2); w = floatAt s (at + 3) }
 
 -- a float's word; NaN has one
 abbrev pub word : Float → ℕ

@@ -3,16 +3,16 @@ ghost use mathlib.Core.Path.{_≡_};
 ghost use Rattle.rust_vectors.specs.Brake.{fresh, answer, step};
 use crate::subject::Step;
 use crate::subject::Subject;
-use crate::words::vector4_at;
 use crate::words::words4;
 use active_brake::ActiveBrakeController;
 use active_brake::BrakeAnswer;
 use active_brake::BrakeMade;
+use block_floats::vec4_at;
 use block_words::word_at;
 use linear::Vector4f;
 
 // A header has k and the number of calls.
-pub fn fresh(header: &[u8]) -> Subject
+pub(crate) fn fresh(header: &[u8]) -> Subject
     ensures { λ r. ⌜ r ≡ fresh (now (header .entry)) ⌝ }
 {
     match ActiveBrakeController::new(word_at(header, 0)) {
@@ -27,7 +27,7 @@ fn answer(b: ActiveBrakeController, call: &[u8]) -> BrakeAnswer
     ensures { λ r. ⌜ r ≡ answer b (now (call .entry)) ⌝ }
 {
     match word_at(call, 0) {
-        0 => b.compute(vector4_at(call, 1)),
+        0 => b.compute(vec4_at(call, 1)),
         _ => BrakeAnswer {
             currents: Vector4f::zeros(),
             controller: b.reset(),
@@ -35,7 +35,7 @@ fn answer(b: ActiveBrakeController, call: &[u8]) -> BrakeAnswer
     }
 }
 
-pub fn step(b: ActiveBrakeController, call: &[u8]) -> Step
+pub(crate) fn step(b: ActiveBrakeController, call: &[u8]) -> Step
     ensures { λ r. ⌜ r ≡ step b (now (call .entry)) ⌝ }
 {
     let a = answer(b, call);

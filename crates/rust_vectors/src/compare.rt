@@ -3,10 +3,9 @@ ghost use mathlib.Core.Path.{_≡_};
 ghost use Rattle.rust_vectors.specs.Compare.{agreesUpTo};
 use block_words::word_at;
 use libc::STDOUT_FILENO;
-use vector_run::report::print_word;
 
 // Whether the twelve words are those of the call from `at` on.
-pub fn agrees(words: &[u32; 12], call: &[u8], at: u8) -> bool
+pub(crate) fn agrees(words: &[u32; 12], call: &[u8], at: u8) -> bool
     ensures { λ r. ⌜ r ≡ agreesUpTo (now (words .entry)) (now (call .entry)) at 12 ⌝ }
 {
     let mut same = true;
@@ -16,6 +15,12 @@ pub fn agrees(words: &[u32; 12], call: &[u8], at: u8) -> bool
         i += 1;
     }
     same
+}
+
+// A name and a word in hex.
+fn print_word(name: &[u8], word: u32) {
+    io::write_all(STDOUT_FILENO, name);
+    io::print_hex(STDOUT_FILENO, word as u64, 8);
 }
 
 // A word of call `number` of the list that differs.
@@ -30,7 +35,7 @@ fn show_word(number: u64, i: usize, answer: u32, wanted: u32) {
 }
 
 // Shows each of the twelve words that differs.
-pub fn show(number: u64, words: &[u32; 12], call: &[u8], at: u8) {
+pub(crate) fn show(number: u64, words: &[u32; 12], call: &[u8], at: u8) {
     let mut i: usize = 0;
     while i < 12 {
         let place = (at as usize) + i;

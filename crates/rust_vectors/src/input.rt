@@ -18,7 +18,7 @@ fn space() -> [u8; 140]
 }
 
 // The next `size` bytes of the file.
-pub fn read_record(fd: i32, size: usize) -> Record
+pub(crate) fn read_record(fd: i32, size: usize) -> Record
     requires { ⌜ size ≤ 140 ⌝ }
     ensures { λ r. ⌜ 140 ≡ length (r .bytes) ⌝ }
 {

@@ -35,7 +35,7 @@ fn laid_out(header: usize, call: usize, calls: usize, kinds: u32, compared: u8) 
 }
 
 // Each list's numbers, in words.
-pub fn layout_of(list: ListOf) -> Layout
+pub(crate) fn layout_of(list: ListOf) -> Layout
     ensures { λ r. ⌜ (r .header ≤ 140) × (r .call ≤ 140) ⌝ }
 {
     match list {

@@ -3,7 +3,7 @@
 // word. Prints a line for each list, and the first mismatches.
 mod layout; // layout.rt: how a list is laid out
 mod input; // input.rt: a record, as it is read
-mod words; // words.rt: the floats of a record, and the words of an answer
+mod words; // words.rt: the words that an answer is compared by
 mod pids; // pids.rt: the lists of the PID controllers
 mod brake; // brake.rt: the list of the active brake
 mod lag; // lag.rt: the list of the encoder lag
@@ -17,10 +17,10 @@ use input::read_record;
 use layout::Layout;
 use layout::ListOf;
 use layout::layout_of;
+use libc::STDOUT_FILENO;
 use subject::Subject;
 use subject::fresh;
 use subject::next_step;
-use vector_run::report;
 use vector_run::report::Tally;
 
 // A run in progress.
@@ -35,8 +35,12 @@ fn cut_short(tally: Tally) -> Tally {
     cut
 }
 
-// Counts a call, and shows it where it is among the first mismatches. A kind that is none is one.
-fn judge(tally: Tally, layout: Layout, words: &[u32; 12], call: &[u8]) -> Tally {
+// Counts a call, if it is whole, and shows it where it is among the first mismatches. A kind that is
+// none is one.
+fn judge(tally: Tally, layout: Layout, words: &[u32; 12], call: &[u8], whole: bool) -> Tally {
+    if !whole {
+        return cut_short(tally);
+    }
     let known = word_at(call, 0) < layout.kinds;
     if known & agrees(words, call, layout.compared) {
         return tally.count(1, 0);
@@ -47,29 +51,18 @@ fn judge(tally: Tally, layout: Layout, words: &[u32; 12], call: &[u8]) -> Tally 
     tally.count(1, 1)
 }
 
-// Makes one call.
-fn make_call(layout: Layout, p: Progress, call: &[u8]) -> Progress {
-    let before = p.subject;
-    let step = next_step(before, call);
-    let subject = step.subject;
-    let words = step.words;
-    Progress {
-        subject,
-        tally: judge(p.tally, layout, &words, call),
-    }
-}
-
 // Reads one call, and makes it.
 fn run_call(fd: i32, list: ListOf, p: Progress) -> Progress {
     let layout = layout_of(list);
     let read = read_record(fd, layout.call);
-    if read.whole {
-        let call = read.bytes;
-        make_call(layout, p, &call)
-    } else {
-        let mut cut = p;
-        cut.tally = cut_short(p.tally);
-        cut
+    let call = read.bytes;
+    let before = p.subject;
+    let step = next_step(before, &call);
+    let subject = step.subject;
+    let words = step.words;
+    Progress {
+        subject,
+        tally: judge(p.tally, layout, &words, &call, read.whole),
     }
 }
 
@@ -127,14 +120,23 @@ fn run_list(fd: i32, list: ListOf) -> Tally {
     }
 }
 
+// Prints a list's line.
+fn print_line(name: &[u8], tally: Tally) {
+    let mut text = [0u8; 80];
+    let n = tally.line(&mut text);
+    io::write_all(STDOUT_FILENO, name);
+    io::write_all(STDOUT_FILENO, &text[..n]);
+}
+
 // Runs the list in the file `name`, and prints its line.
 fn run(list: ListOf, name: &[u8]) {
     let fd = os::open_read(name);
     if fd < 0 {
-        report::missing(name);
+        io::write_all(STDOUT_FILENO, name);
+        io::write_all(STDOUT_FILENO, b" cannot be opened\n");
         return;
     }
-    report::total(name, run_list(fd, list));
+    print_line(name, run_list(fd, list));
     libc::close(fd);
 }
 

@@ -3,12 +3,12 @@ ghost use mathlib.Core.Path.{_≡_};
 ghost use Rattle.rust_vectors.specs.Pids.{gainsAt, threshAt, limitsAt, axisAt, fresh1, fresh3, fresh4, answer1, answer3, answer4, step1, step3, step4};
 use crate::subject::Step;
 use crate::subject::Subject;
-use crate::words::float_at;
-use crate::words::vector3_at;
-use crate::words::vector4_at;
 use crate::words::words1;
 use crate::words::words3;
 use crate::words::words4;
+use block_floats::float_at;
+use block_floats::vec3_at;
+use block_floats::vec4_at;
 use block_words::word_at;
 use controller_params::PidGains;
 use linear::Vector3f;
@@ -71,13 +71,13 @@ fn axis_at(header: &[u8], n: u8, i: u8) -> PidController
     PidController::new(gain, thresh, limits_at(header, n, i))
 }
 
-pub fn fresh1(header: &[u8]) -> Subject
+pub(crate) fn fresh1(header: &[u8]) -> Subject
     ensures { λ r. ⌜ r ≡ fresh1 (now (header .entry)) ⌝ }
 {
     Subject::Pid1(axis_at(header, 1, 0))
 }
 
-pub fn fresh3(header: &[u8]) -> Subject
+pub(crate) fn fresh3(header: &[u8]) -> Subject
     ensures { λ r. ⌜ r ≡ fresh3 (now (header .entry)) ⌝ }
 {
     Subject::Pid3(PidController3 {
@@ -87,7 +87,7 @@ pub fn fresh3(header: &[u8]) -> Subject
     })
 }
 
-pub fn fresh4(header: &[u8]) -> Subject
+pub(crate) fn fresh4(header: &[u8]) -> Subject
     ensures { λ r. ⌜ r ≡ fresh4 (now (header .entry)) ⌝ }
 {
     Subject::Pid4(PidController4 {
@@ -119,12 +119,12 @@ fn answer1(c: PidController, call: &[u8]) -> PidAnswer
 fn answer3(c: PidController3, call: &[u8]) -> PidAnswer3
     ensures { λ r. ⌜ r ≡ answer3 c (now (call .entry)) ⌝ }
 {
-    let setpoint = vector3_at(call, 1);
-    let process = vector3_at(call, 4);
+    let setpoint = vec3_at(call, 1);
+    let process = vec3_at(call, 4);
     let dt = float_at(call, 10);
     match word_at(call, 0) {
         0 => c.calculate(setpoint, process, dt),
-        1 => c.calculate_with_derivative(setpoint, process, vector3_at(call, 7), dt),
+        1 => c.calculate_with_derivative(setpoint, process, vec3_at(call, 7), dt),
         _ => PidAnswer3 {
             output: Vector3f::zeros(),
             controller: c.reset(),
@@ -135,12 +135,12 @@ fn answer3(c: PidController3, call: &[u8]) -> PidAnswer3
 fn answer4(c: PidController4, call: &[u8]) -> PidAnswer4
     ensures { λ r. ⌜ r ≡ answer4 c (now (call .entry)) ⌝ }
 {
-    let setpoint = vector4_at(call, 1);
-    let process = vector4_at(call, 5);
+    let setpoint = vec4_at(call, 1);
+    let process = vec4_at(call, 5);
     let dt = float_at(call, 13);
     match word_at(call, 0) {
         0 => c.calculate(setpoint, process, dt),
-        1 => c.calculate_with_derivative(setpoint, process, vector4_at(call, 9), dt),
+        1 => c.calculate_with_derivative(setpoint, process, vec4_at(call, 9), dt),
         _ => PidAnswer4 {
             output: Vector4f::zeros(),
             controller: c.reset(),
@@ -148,7 +148,7 @@ fn answer4(c: PidController4, call: &[u8]) -> PidAnswer4
     }
 }
 
-pub fn step1(c: PidController, call: &[u8]) -> Step
+pub(crate) fn step1(c: PidController, call: &[u8]) -> Step
     ensures { λ r. ⌜ r ≡ step1 c (now (call .entry)) ⌝ }
 {
     let a = answer1(c, call);
@@ -159,7 +159,7 @@ pub fn step1(c: PidController, call: &[u8]) -> Step
     }
 }
 
-pub fn step3(c: PidController3, call: &[u8]) -> Step
+pub(crate) fn step3(c: PidController3, call: &[u8]) -> Step
     ensures { λ r. ⌜ r ≡ step3 c (now (call .entry)) ⌝ }
 {
     let a = answer3(c, call);
@@ -170,7 +170,7 @@ pub fn step3(c: PidController3, call: &[u8]) -> Step
     }
 }
 
-pub fn step4(c: PidController4, call: &[u8]) -> Step
+pub(crate) fn step4(c: PidController4, call: &[u8]) -> Step
     ensures { λ r. ⌜ r ≡ step4 c (now (call .entry)) ⌝ }
 {
     let a = answer4(c, call);

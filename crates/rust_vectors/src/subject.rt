@@ -29,7 +29,7 @@ pub struct Step {
 }
 
 // The step of no subject: its words are no float's, so that it shows as a mismatch.
-pub fn unanswered(subject: Subject) -> Step
+pub(crate) fn unanswered(subject: Subject) -> Step
     ensures { λ r. ⌜ r ≡ unanswered subject ⌝ }
 {
     Step {
@@ -39,7 +39,7 @@ pub fn unanswered(subject: Subject) -> Step
 }
 
 // The subject that a run's header describes, at its start.
-pub fn fresh(list: ListOf, header: &[u8]) -> Subject
+pub(crate) fn fresh(list: ListOf, header: &[u8]) -> Subject
     ensures { λ r. ⌜ r ≡ freshOf list (now (header .entry)) ⌝ }
 {
     match list {
@@ -52,7 +52,7 @@ pub fn fresh(list: ListOf, header: &[u8]) -> Subject
 }
 
 // One call.
-pub fn next_step(subject: Subject, call: &[u8]) -> Step
+pub(crate) fn next_step(subject: Subject, call: &[u8]) -> Step
     ensures { λ r. ⌜ r ≡ stepOf subject (now (call .entry)) ⌝ }
 {
     match subject {

@@ -1,8 +1,6 @@
-// The floats of a record, and the words that an answer is compared by.
+// The words that an answer is compared by.
 ghost use mathlib.Core.Path.{_≡_};
-ghost use Rattle.rust_vectors.specs.Words.{floatAt, vector2At, vector3At, vector4At, words1, words2, words3, words4};
-use block_words::word_at;
-use ieee754::bits::from_bits;
+ghost use Rattle.rust_vectors.specs.Words.{words1, words2, words3, words4};
 use ieee754::bits::to_bits;
 use linear::Vector2f;
 use linear::Vector3f;
@@ -11,49 +9,8 @@ use pid::PidController;
 use pid::PidController3;
 use pid::PidController4;
 
-// The float whose bits are word i.
-pub fn float_at(block: &[u8], i: usize) -> f32
-    ensures { λ r. ⌜ r ≡ floatAt (now (block .entry)) i ⌝ }
-{
-    from_bits(word_at(block, i))
-}
-
-// The vector whose entries are the words from `at` on.
-pub fn vector2_at(block: &[u8], at: u8) -> Vector2f
-    ensures { λ r. ⌜ r ≡ vector2At (now (block .entry)) at ⌝ }
-{
-    let at = at as usize;
-    Vector2f {
-        x: float_at(block, at),
-        y: float_at(block, at + 1),
-    }
-}
-
-pub fn vector3_at(block: &[u8], at: u8) -> Vector3f
-    ensures { λ r. ⌜ r ≡ vector3At (now (block .entry)) at ⌝ }
-{
-    let at = at as usize;
-    Vector3f {
-        x: float_at(block, at),
-        y: float_at(block, at + 1),
-        z: float_at(block, at + 2),
-    }
-}
-
-pub fn vector4_at(block: &[u8], at: u8) -> Vector4f
-    ensures { λ r. ⌜ r ≡ vector4At (now (block .entry)) at ⌝ }
-{
-    let at = at as usize;
-    Vector4f {
-        x: float_at(block, at),
-        y: float_at(block, at + 1),
-        z: float_at(block, at + 2),
-        w: float_at(block, at + 3),
-    }
-}
-
 // What is compared after a call of one axis: the output, then what is remembered; then zeros.
-pub fn words1(output: f32, c: PidController) -> [u32; 12]
+pub(crate) fn words1(output: f32, c: PidController) -> [u32; 12]
     ensures { λ r. ⌜ r ≡ words1 output c ⌝ }
 {
     let o = to_bits(output);
@@ -63,7 +20,7 @@ pub fn words1(output: f32, c: PidController) -> [u32; 12]
 }
 
 // Of three axes: the outputs, the previous errors, the integrated errors.
-pub fn words3(output: Vector3f, c: PidController3) -> [u32; 12]
+pub(crate) fn words3(output: Vector3f, c: PidController3) -> [u32; 12]
     ensures { λ r. ⌜ r ≡ words3 output c ⌝ }
 {
     let x = words1(output.x, c.x);
@@ -86,7 +43,7 @@ pub fn words3(output: Vector3f, c: PidController3) -> [u32; 12]
 }
 
 // Of four axes.
-pub fn words4(output: Vector4f, c: PidController4) -> [u32; 12]
+pub(crate) fn words4(output: Vector4f, c: PidController4) -> [u32; 12]
     ensures { λ r. ⌜ r ≡ words4 output c ⌝ }
 {
     let x = words1(output.x, c.x);
@@ -110,7 +67,7 @@ pub fn words4(output: Vector4f, c: PidController4) -> [u32; 12]
 }
 
 // Of a lag: the output and the state; then zeros.
-pub fn words2(output: Vector2f, state: Vector2f) -> [u32; 12]
+pub(crate) fn words2(output: Vector2f, state: Vector2f) -> [u32; 12]
     ensures { λ r. ⌜ r ≡ words2 output state ⌝ }
 {
     let ox = to_bits(output.x);

@@ -1,40 +1,51 @@
 -- The number of a block's answer is the first of document 01's numbers that applies to it (`numbered`). Assumes nothing.
 use Prim.Native.Nat.{ℕ}
-use mathlib.Core.Path.{_≡_, refl}
+use mathlib.Core.Path.{_≡_, refl, _∙_}
 use mathlib.Core.Bool.{Bool, true, false, cond}
 use mathlib.Core.List.{List}
 use Rattle.tick_length.specs.declared.TickLengthAnswer.the-variants as Length
 use Rattle.tick_length.specs.TickLength.{isTickLength, tickLengthOf}
 use Rattle.maneuvers.specs.Command.{isMode}
 use Rattle.block_words.specs.Word.{wordAt}
-use Rattle.tick_block.specs.declared.BlockAnswer.{BlockAnswer}
-use Rattle.tick_block.specs.declared.BlockAnswer.the-variants.{Refused}
 use Rattle.tick_block.specs.declared.BlockRefusal.{BlockRefusal}
 use Rattle.tick_block.specs.declared.BlockRefusal.the-variants as Why
-use Rattle.tick_block.specs.Block.{isWhole, checks, isVersion, spareZero, readWith, inputsRead, formatRead, blockRead, refusalNumber, answerNumber, blockRefusal}
+use Rattle.tick_block.specs.declared.Tested.{Tested}
+use Rattle.tick_block.specs.declared.Tested.the-variants.{Passed, Refused}
+use Rattle.tick_block.specs.Block.{isWhole, checks, isVersion, spareZero, testedWith, inputsTested, formatTested, blockTested, answerTo, blockRead, refusalNumber, answerNumber, blockRefusal}
 use Rattle.tick_block.specs.Layout as at
 
--- one test more in front of an answer
-tested : (b : Bool) (x : BlockAnswer) (n : ℕ) (r : BlockRefusal) → answerNumber x ≡ n → answerNumber (cond b x (Refused r)) ≡ cond b n (refusalNumber r)
+-- the number of what the tests show
+abbrev testedNumber : Tested → ℕ
+testedNumber (Passed t) = 0
+testedNumber (Refused r) = refusalNumber r
+
+-- it is the answer's
+answered : (t : Tested) (s : List ℕ) → answerNumber (answerTo t s) ≡ testedNumber t
+answered (Passed t) s = refl
+answered (Refused r) s = refl
+
+-- one test more in front
+tested : (b : Bool) (x : Tested) (n : ℕ) (r : BlockRefusal) → testedNumber x ≡ n → testedNumber (cond b x (Refused r)) ≡ cond b n (refusalNumber r)
 tested true x n r h = h
 tested false x n r h = refl
 
 -- 1, then 4
-inputs-numbered : (s : List ℕ) → answerNumber (inputsRead s) ≡ cond (isTickLength (wordAt s at.tickLength)) (cond (isMode (wordAt s at.mode)) 0 4) 1
-unfolding inputsRead tickLengthOf
+inputs-numbered : (s : List ℕ) → testedNumber (inputsTested s) ≡ cond (isTickLength (wordAt s at.tickLength)) (cond (isMode (wordAt s at.mode)) 0 4) 1
+unfolding inputsTested tickLengthOf
 inputs-numbered s = go (isTickLength (wordAt s at.tickLength))
   where
     go :
         (b : Bool)
-        → answerNumber (readWith (cond b (Length.Made (record { k = wordAt s at.tickLength })) Length.Refused) s)
+        → testedNumber (testedWith (cond b (Length.Made (record { k = wordAt s at.tickLength })) Length.Refused) s)
         ≡ cond b (cond (isMode (wordAt s at.mode)) 0 4) 1
     go true = tested (isMode (wordAt s at.mode)) _ 0 Why.Mode refl
     go false = refl
 
 pub numbered : (s : List ℕ) → answerNumber (blockRead s) ≡ blockRefusal s
-unfolding blockRead formatRead blockRefusal
+unfolding blockRead blockTested formatTested blockRefusal
 numbered s =
-    tested (isWhole s) _ _ Why.Length
+    answered (blockTested s) s
+    ∙ tested (isWhole s) _ _ Why.Length
     (tested (checks s) _ _ Why.Check
     (tested (isVersion s) _ _ Why.Version
     (tested (spareZero s) _ _ Why.Spare (inputs-numbered s))))

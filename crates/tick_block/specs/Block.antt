@@ -11,9 +11,11 @@ use Rattle.tick_length.specs.TickLength.{isTickLength, tickLengthOf}
 use Rattle.maneuvers.specs.Command.{isMode}
 use Rattle.block_words.specs.Word.{wordAt}
 use Rattle.tick_block.specs.declared.BlockAnswer.{BlockAnswer}
-use Rattle.tick_block.specs.declared.BlockAnswer.the-variants.{Read, Refused}
+use Rattle.tick_block.specs.declared.BlockAnswer.the-variants as Answer
 use Rattle.tick_block.specs.declared.BlockRefusal.{BlockRefusal}
 use Rattle.tick_block.specs.declared.BlockRefusal.the-variants as Why
+use Rattle.tick_block.specs.declared.Tested.{Tested}
+use Rattle.tick_block.specs.declared.Tested.the-variants.{Passed, Refused}
 use Rattle.tick_block.specs.declared.TickBlock.{TickBlock}
 use Rattle.tick_block.specs.Inputs.{sightInput, planInput, steerInput, finishInput}
 use Rattle.tick_block.specs.Layout as at
@@ -50,6 +52,25 @@ zeroSpares s (suc n) = zeroSpares s n && eqb (wordAt s (at.spare + n)) 0
 unfoldable pub spareZero : List ℕ → Bool
 spareZero s = ltb (wordAt s at.flags) 32 && zeroSpares s at.spares
 
+-- ---- the tests, in their order
+
+-- by its tick length, then by its mode
+abbrev pub testedWith : TickLengthAnswer → List ℕ → Tested
+testedWith (Length.Made t) s = cond (isMode (wordAt s at.mode)) (Passed t) (Refused Why.Mode)
+testedWith Length.Refused s = Refused Why.TickLength
+
+-- 1, then 4
+unfoldable pub inputsTested : List ℕ → Tested
+inputsTested s = testedWith (tickLengthOf (wordAt s at.tickLength)) s
+
+-- 7, then 8, then the rest
+unfoldable pub formatTested : List ℕ → Tested
+formatTested s = cond (isVersion s) (cond (spareZero s) (inputsTested s) (Refused Why.Spare)) (Refused Why.Version)
+
+-- 5, then 6, then the rest
+unfoldable pub blockTested : List ℕ → Tested
+blockTested s = cond (isWhole s) (cond (checks s) (formatTested s) (Refused Why.Check)) (Refused Why.Length)
+
 -- ---- the answer
 
 -- what an accepted block says
@@ -63,22 +84,13 @@ tickBlock s t = record {
   finish = finishInput s;
 }
 
--- by its tick length, then by its mode
-abbrev pub readWith : TickLengthAnswer → List ℕ → BlockAnswer
-readWith (Length.Made t) s = cond (isMode (wordAt s at.mode)) (Read (tickBlock s t)) (Refused Why.Mode)
-readWith Length.Refused s = Refused Why.TickLength
+-- what it says where it passed, and else why it is refused
+abbrev pub answerTo : Tested → List ℕ → BlockAnswer
+answerTo (Passed t) s = Answer.Read (tickBlock s t)
+answerTo (Refused why) s = Answer.Refused why
 
--- 1, then 4
-unfoldable pub inputsRead : List ℕ → BlockAnswer
-inputsRead s = readWith (tickLengthOf (wordAt s at.tickLength)) s
-
--- 7, then 8, then the rest
-unfoldable pub formatRead : List ℕ → BlockAnswer
-formatRead s = cond (isVersion s) (cond (spareZero s) (inputsRead s) (Refused Why.Spare)) (Refused Why.Version)
-
--- 5, then 6, then the rest
 unfoldable pub blockRead : List ℕ → BlockAnswer
-blockRead s = cond (isWhole s) (cond (checks s) (formatRead s) (Refused Why.Check)) (Refused Why.Length)
+blockRead s = answerTo (blockTested s) s
 
 -- ---- document 01's numbers
 
@@ -92,8 +104,8 @@ refusalNumber Why.Spare = 8
 
 -- an answer's number, and 0 for the one that is no refusal
 abbrev pub answerNumber : BlockAnswer → ℕ
-answerNumber (Read b) = 0
-answerNumber (Refused r) = refusalNumber r
+answerNumber (Answer.Read b) = 0
+answerNumber (Answer.Refused r) = refusalNumber r
 
 -- 'Blocks: 5, 6, 7, 8, 1, 4': the first that applies, 0 where none does
 unfoldable pub blockRefusal : List ℕ → ℕ

@@ -11,8 +11,9 @@ use Rattle.body_controller.specs.declared.PlanInput.{PlanInput}
 use Rattle.body_controller.specs.declared.SightInput.{SightInput}
 use Rattle.body_controller.specs.declared.SteerInput.{SteerInput}
 use Rattle.block_words.specs.Word.{wordAt}
+use Rattle.block_floats.specs.Floats.{floatAt, vector3At, vector4At}
 use Rattle.tick_block.specs.Layout as at
-use Rattle.tick_block.specs.Parts.{floatAt, vector3At, vector4At, vector6At, sampleAt, matrix3At, matrix3x4At, matrix4x3At}
+use Rattle.tick_block.specs.Parts.{vector6At, sampleAt, matrix3At, matrix3x4At, matrix4x3At}
 
 -- ---- flags
 

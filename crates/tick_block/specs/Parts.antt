@@ -1,26 +1,12 @@
--- The floats of a block of bytes, one by one and by vectors and matrices. Assumes nothing.
+-- State, samples and matrices of a block, document 01, 'Records'. Assumes nothing.
 use Prim.Native.Nat.{ℕ, _+_}
 use mathlib.Core.List.{List}
-use lib.Ieee.{Float, binary32, ofBits}
 use Rattle.linear.specs.declared.Matrix3.{Matrix3}
 use Rattle.linear.specs.declared.Matrix3x4.{Matrix3x4}
 use Rattle.linear.specs.declared.Matrix4x3.{Matrix4x3}
-use Rattle.linear.specs.declared.Vector3f.{Vector3f}
-use Rattle.linear.specs.declared.Vector4f.{Vector4f}
 use Rattle.linear.specs.declared.Vector6f.{Vector6f}
 use Rattle.maneuvers.specs.declared.Sample.{Sample}
-use Rattle.block_words.specs.Word.{wordAt}
-
--- the float whose bits are word i
-unfoldable pub floatAt : List ℕ → ℕ → Float
-floatAt s i = ofBits binary32 (wordAt s i)
-
--- the vectors whose entries are the words from `at` on
-unfoldable pub vector3At : List ℕ → ℕ → Vector3f
-vector3At s at = record { x = floatAt s at; y = floatAt s (at + 1); z = floatAt s (at + 2) }
-
-unfoldable pub vector4At : List ℕ → ℕ → Vector4f
-vector4At s at = record { x = floatAt s at; y = floatAt s (at + 1); z = floatAt s (at + 2); w = floatAt s (at + 3) }
+use Rattle.block_floats.specs.Floats.{vector3At, vector4At}
 
 -- six of state: x, y, heading, their velocities
 unfoldable pub vector6At : List ℕ → ℕ → Vector6f

@@ -1,4 +1,5 @@
-// Where the 128 words of a tick block lie, document 01, 'Records'. A part is named by its first word.
+// Where the 128 words of a tick block lie, document 01, 'Records'. A part is named by its first word,
+// a u8 where it has several, as `block_floats` reads it.
 
 // A block is 512 bytes.
 pub(crate) const BYTES: usize = 512;
@@ -11,35 +12,35 @@ pub(crate) const FLAGS: usize = 2;
 
 pub(crate) const MODE: usize = 3;
 
-pub(crate) const SIGHTING: usize = 4;
+pub(crate) const SIGHTING: u8 = 4;
 
-pub(crate) const WHEELS: usize = 7;
+pub(crate) const WHEELS: u8 = 7;
 
 pub(crate) const GYRO: usize = 11;
 
-pub(crate) const PREDICTED: usize = 12;
+pub(crate) const PREDICTED: u8 = 12;
 
-pub(crate) const ESTIMATE: usize = 18;
+pub(crate) const ESTIMATE: u8 = 18;
 
-pub(crate) const COMMAND: usize = 24;
+pub(crate) const COMMAND: u8 = 24;
 
-pub(crate) const FRESH: usize = 37;
+pub(crate) const FRESH: u8 = 37;
 
-pub(crate) const NEXT: usize = 46;
+pub(crate) const NEXT: u8 = 46;
 
 pub(crate) const COSINE: usize = 55;
 
 pub(crate) const SINE: usize = 56;
 
-pub(crate) const INVERSE_INERTIA: usize = 57;
+pub(crate) const INVERSE_INERTIA: u8 = 57;
 
-pub(crate) const TWIST_TO_WHEEL: usize = 66;
+pub(crate) const TWIST_TO_WHEEL: u8 = 66;
 
-pub(crate) const ACCEL_TO_WHEEL: usize = 78;
+pub(crate) const ACCEL_TO_WHEEL: u8 = 78;
 
-pub(crate) const WHEEL_TO_TWIST: usize = 90;
+pub(crate) const WHEEL_TO_TWIST: u8 = 90;
 
-pub(crate) const FRICTION: usize = 102;
+pub(crate) const FRICTION: u8 = 102;
 
 pub(crate) const TICK_LENGTH: usize = 105;
 

@@ -2,30 +2,23 @@
 mod check; // check.rt: the check and the spare words
 mod inputs; // inputs.rt: the inputs of the four calls
 mod layout; // layout.rt: where the words lie
-mod parts; // parts.rt: floats, vectors and matrices
+mod parts; // parts.rt: state, samples and matrices
+mod tests; // tests.rt: the tests, in their order
 
 ghost use mathlib.Core.Path.{_≡_};
-ghost use Rattle.tick_block.specs.Block.{tickBlock, inputsRead, formatRead, blockRead, refusalNumber, answerNumber, blockRefusal};
-use crate::check::check_of;
-use crate::check::spare_zero;
+ghost use Rattle.tick_block.specs.Block.{tickBlock, blockRead, refusalNumber, answerNumber, blockRefusal};
 use crate::inputs::finish_input;
 use crate::inputs::plan_input;
 use crate::inputs::sight_input;
 use crate::inputs::steer_input;
-use crate::layout::BYTES;
-use crate::layout::CHECK;
-use crate::layout::MODE;
 use crate::layout::NUMBER;
-use crate::layout::TICK_LENGTH;
-use crate::layout::VERSION;
+use crate::tests::block_tested;
 use block_words::word_at;
 use body_controller::FinishInput;
 use body_controller::PlanInput;
 use body_controller::SightInput;
 use body_controller::SteerInput;
-use maneuvers::command::is_mode;
 use tick_length::TickLength;
-use tick_length::TickLengthAnswer;
 
 pub struct TickBlock {
     // The tick number, from 0.
@@ -51,6 +44,12 @@ pub enum BlockRefusal {
     Version,
     // 8: flags >= 32 or spare word not zero
     Spare,
+}
+
+// What the tests of a block show: its tick length, where it passes them all.
+pub enum Tested {
+    Passed(TickLength),
+    Refused(BlockRefusal),
 }
 
 pub enum BlockAnswer {
@@ -87,49 +86,13 @@ fn tick_block(block: &[u8], tick: TickLength) -> TickBlock
     }
 }
 
-// The last two tests: 1, then 4.
-fn read_inputs(block: &[u8]) -> BlockAnswer
-    ensures { λ r. ⌜ r ≡ inputsRead (now (block .entry)) ⌝ }
-{
-    let answer = TickLength::new(word_at(block, TICK_LENGTH));
-    match answer {
-        TickLengthAnswer::Made(tick) => {
-            if is_mode(word_at(block, MODE)) {
-                BlockAnswer::Read(tick_block(block, tick))
-            } else {
-                BlockAnswer::Refused(BlockRefusal::Mode)
-            }
-        }
-        TickLengthAnswer::Refused => BlockAnswer::Refused(BlockRefusal::TickLength),
-    }
-}
-
-// The tests between: 7, then 8.
-fn read_format(block: &[u8]) -> BlockAnswer
-    ensures { λ r. ⌜ r ≡ formatRead (now (block .entry)) ⌝ }
-{
-    if word_at(block, VERSION) == 1 {
-        if spare_zero(block) {
-            read_inputs(block)
-        } else {
-            BlockAnswer::Refused(BlockRefusal::Spare)
-        }
-    } else {
-        BlockAnswer::Refused(BlockRefusal::Version)
-    }
-}
-
-// The first two tests, 5 and then 6, and the others after them.
+// The answer: what the block says where it passes its tests.
 pub fn read(block: &[u8]) -> BlockAnswer
     ensures { λ r. ⌜ (r ≡ blockRead (now (block .entry))) × (answerNumber r ≡ blockRefusal (now (block .entry))) × (now (block .exit) ≡ now (block .entry)) ⌝ }
 {
-    if block.len() == BYTES {
-        if word_at(block, CHECK) == check_of(block) {
-            read_format(block)
-        } else {
-            BlockAnswer::Refused(BlockRefusal::Check)
-        }
-    } else {
-        BlockAnswer::Refused(BlockRefusal::Length)
+    let tested = block_tested(block);
+    match tested {
+        Tested::Passed(tick) => BlockAnswer::Read(tick_block(block, tick)),
+        Tested::Refused(why) => BlockAnswer::Refused(why),
     }
 }

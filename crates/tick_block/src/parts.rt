@@ -1,48 +1,16 @@
-// The floats of a block, one by one and by vectors and matrices. A part lies among the 128 words.
+// State, samples and matrices of a block. A part lies among the 128 words.
 ghost use mathlib.Core.Path.{_≡_};
 ghost use Prim.Native.Nat.{_+_, _<_};
-ghost use Rattle.tick_block.specs.Parts.{floatAt, vector3At, vector4At, vector6At, sampleAt, matrix3At, matrix4x3At, matrix3x4At};
-use block_words::word_at;
-use ieee754::bits::from_bits;
+ghost use Rattle.tick_block.specs.Parts.{vector6At, sampleAt, matrix3At, matrix4x3At, matrix3x4At};
+use block_floats::vec3_at;
+use block_floats::vec4_at;
 use linear::Matrix3;
 use linear::Matrix3x4;
 use linear::Matrix4x3;
-use linear::Vector3f;
-use linear::Vector4f;
 use linear::Vector6f;
 use maneuvers::Sample;
 
-// The float whose bits are word i.
-pub(crate) fn float_at(block: &[u8], i: usize) -> f32
-    ensures { λ r. ⌜ r ≡ floatAt (now (block .entry)) i ⌝ }
-{
-    from_bits(word_at(block, i))
-}
-
-pub(crate) fn vec3_at(block: &[u8], at: usize) -> Vector3f
-    requires { ⌜ at + 2 < 128 ⌝ }
-    ensures { λ r. ⌜ r ≡ vector3At (now (block .entry)) at ⌝ }
-{
-    Vector3f {
-        x: float_at(block, at),
-        y: float_at(block, at + 1),
-        z: float_at(block, at + 2),
-    }
-}
-
-pub(crate) fn vec4_at(block: &[u8], at: usize) -> Vector4f
-    requires { ⌜ at + 3 < 128 ⌝ }
-    ensures { λ r. ⌜ r ≡ vector4At (now (block .entry)) at ⌝ }
-{
-    Vector4f {
-        x: float_at(block, at),
-        y: float_at(block, at + 1),
-        z: float_at(block, at + 2),
-        w: float_at(block, at + 3),
-    }
-}
-
-pub(crate) fn vec6_at(block: &[u8], at: usize) -> Vector6f
+pub(crate) fn vec6_at(block: &[u8], at: u8) -> Vector6f
     requires { ⌜ at + 5 < 128 ⌝ }
     ensures { λ r. ⌜ r ≡ vector6At (now (block .entry)) at ⌝ }
 {
@@ -52,7 +20,7 @@ pub(crate) fn vec6_at(block: &[u8], at: usize) -> Vector6f
     }
 }
 
-pub(crate) fn sample_at(block: &[u8], at: usize) -> Sample
+pub(crate) fn sample_at(block: &[u8], at: u8) -> Sample
     requires { ⌜ at + 8 < 128 ⌝ }
     ensures { λ r. ⌜ r ≡ sampleAt (now (block .entry)) at ⌝ }
 {
@@ -62,7 +30,7 @@ pub(crate) fn sample_at(block: &[u8], at: usize) -> Sample
     }
 }
 
-pub(crate) fn mat3_at(block: &[u8], at: usize) -> Matrix3
+pub(crate) fn mat3_at(block: &[u8], at: u8) -> Matrix3
     requires { ⌜ at + 8 < 128 ⌝ }
     ensures { λ r. ⌜ r ≡ matrix3At (now (block .entry)) at ⌝ }
 {
@@ -73,7 +41,7 @@ pub(crate) fn mat3_at(block: &[u8], at: usize) -> Matrix3
     }
 }
 
-pub(crate) fn mat4x3_at(block: &[u8], at: usize) -> Matrix4x3
+pub(crate) fn mat4x3_at(block: &[u8], at: u8) -> Matrix4x3
     requires { ⌜ at + 11 < 128 ⌝ }
     ensures { λ r. ⌜ r ≡ matrix4x3At (now (block .entry)) at ⌝ }
 {
@@ -85,7 +53,7 @@ pub(crate) fn mat4x3_at(block: &[u8], at: usize) -> Matrix4x3
     }
 }
 
-pub(crate) fn mat3x4_at(block: &[u8], at: usize) -> Matrix3x4
+pub(crate) fn mat3x4_at(block: &[u8], at: u8) -> Matrix3x4
     requires { ⌜ at + 11 < 128 ⌝ }
     ensures { λ r. ⌜ r ≡ matrix3x4At (now (block .entry)) at ⌝ }
 {

@@ -1,2 +1,3 @@
 -- What the contracts of `vector_run` cite. Assumes nothing.
 pub mod Tally
+pub mod Line

@@ -1,8 +1,10 @@
-// What a list has shown, and the lines that are printed.
+// What a list has shown, and its line.
 ghost use mathlib.Core.Path.{_≡_};
-ghost use Prim.Native.Nat.{_-_};
+ghost use Prim.Native.Nat.{_+_, _-_, _≤_};
+ghost use lib.ListN.{length, take};
+ghost use Rattle.io.specs.Counts.{Counts};
+ghost use Rattle.vector_run.specs.Line.{IsLine, Puts, PutsDecimal};
 ghost use Rattle.vector_run.specs.Tally.{noneYet, counted};
-use libc::STDOUT_FILENO;
 
 // What a list has shown so far.
 pub struct Tally {
@@ -44,29 +46,44 @@ impl Tally {
             0
         }
     }
-}
-
-// `NAME` and a word in hex.
-pub fn print_word(name: &[u8], word: u32) {
-    io::write_all(STDOUT_FILENO, name);
-    io::print_hex(STDOUT_FILENO, word as u64, 8);
-}
-
-// A list's line: how many records and mismatches; and whether its last record is cut short.
-pub fn total(name: &[u8], tally: Tally) {
-    io::write_all(STDOUT_FILENO, name);
-    io::write_all(STDOUT_FILENO, b" ");
-    io::print_decimal(STDOUT_FILENO, tally.records);
-    io::write_all(STDOUT_FILENO, b" mismatches ");
-    io::print_decimal(STDOUT_FILENO, tally.mismatches);
-    if tally.cut_short {
-        io::write_all(STDOUT_FILENO, b" and a record cut short");
+    // Puts a list's line behind its name at the start of out, and answers how long it is: how many
+    // records and mismatches, and whether its last record is cut short.
+    pub fn line(self, out: &mut [u8; 80]) -> usize
+        ensures { λ r. ⌜ Counts r (now (out .exit)) ⌝ }
+        ensures { λ r. ⌜ IsLine self (take r (now (out .exit))) ⌝ }
+    {
+        let at = put(out, 0, b" ");
+        let at = put_decimal(out, at, self.records);
+        let at = put(out, at, b" mismatches ");
+        let at = put_decimal(out, at, self.mismatches);
+        if self.cut_short {
+            put(out, at, b" and a record cut short\n")
+        } else {
+            put(out, at, b"\n")
+        }
     }
-    io::write_all(STDOUT_FILENO, b"\n");
 }
 
-// The line of a list that has no file.
-pub fn missing(name: &[u8]) {
-    io::write_all(STDOUT_FILENO, name);
-    io::write_all(STDOUT_FILENO, b" cannot be opened\n");
+// Puts a text at place `at` of out, and answers the place behind it.
+fn put(out: &mut [u8], at: usize, text: &[u8]) -> usize
+    requires { ⌜ at + length (now text) ≤ length (now out) ⌝ }
+    ensures { λ r. ⌜ Puts (now (out .entry)) at (now (text .entry)) (now (out .exit)) r ⌝ }
+{
+    let mut i = 0;
+    while i < text.len() {
+        out[at + i] = text[i];
+        i += 1;
+    }
+    at + i
+}
+
+// A number in decimal.
+fn put_decimal(out: &mut [u8; 80], at: usize, n: u64) -> usize
+    requires { ⌜ at ≤ 60 ⌝ }
+    ensures { λ r. ⌜ PutsDecimal (now (out .entry)) at n (now (out .exit)) r ⌝ }
+    ensures { λ r. ⌜ r ≤ at + 20 ⌝ }
+{
+    let mut digits = [0u8; 20];
+    let k = io::decimal(n, &mut digits);
+    put(out, at, &digits[..k])
 }

@@ -1,7 +1,7 @@
 -- Gate and clock together, tick by tick: m ticks of k/4096 s after the last taken sighting, with no reset since, t and the vision clock are
 -- the sums that the laws of the radius and of the active mark speak of; after a reset the clock stands until a sighting is taken.
 -- Assumes nothing.
-use mathlib.Core.Path.{_≡_, refl, ap, _∙_}
+use mathlib.Core.Path.{_≡_, ap, _∙_}
 use Prim.Native.Nat.{ℕ, suc, _*_, _≤_}
 use mathlib.Core.Bool.{Bool, true, false}
 use lib.Dec.{T, leb}
@@ -16,7 +16,7 @@ use Rattle.vision_gate.specs.declared.VisionGateState.the-variants.{Trac
 use Rattle.vision_gate.specs.declared.Vision.{Vision}
 use Rattle.vision_gate.specs.Outcome.{takes}
 use Rattle.vision_gate.specs.Gate.{distance}
-use Rattle.vision_gate.specs.Vision.{active, clockAfter, newVision, visionAfter}
+use Rattle.vision_gate.specs.Vision.{active, clockAfter, visionAfter}
 use Rattle.vision_gate.specs.Since.{sinceTaken, clockSince}
 use Rattle.vision_gate.proofs.Outcomes.{taken-restarts, refused-waits}
 use Rattle.vision_gate.proofs.Clock.{since-taken, since-reset, reset-stands}
@@ -30,10 +30,6 @@ pub record Held (k m : ℕ) (v : Vision) : Type 0 where
 -- no sighting was taken since the start or the last reset
 abbrev pub Unheld : Vision → Type 0
 Unheld v = v .«time_since_vision_update_s» ≡ visionClockStartS
-
-pub new-unheld : Unheld newVision
-unfolding newVision
-new-unheld = refl
 
 module _ (v : Vision) (seen : Bool) (sighting : Vector3f) (predicted : Vector6f) (k : ℕ) where
   -- whether a tick takes the sighting, and the vision after it

@@ -9,8 +9,8 @@ use Rattle.rust_vectors.proofs.brake.answer.Tie as tie
 word-at-requires : tie.Need-word-at-requires
 word-at-requires c κs = search needs
 
-vector4-at-requires : tie.Need-vector4-at-requires
-vector4-at-requires c κs = search needs
+vec4-at-requires : tie.Need-vec4-at-requires
+vec4-at-requires c κs = search needs
 
 compute-requires : tie.Need-compute-requires
 compute-requires c κs = search needs
@@ -23,7 +23,7 @@ reset-requires c κs = search needs
 
 returns : tie.Need-returns
 unfolding answer
-returns c = simp (c .compute .ensures, c .before .vector4-at .ensures, sym (c .before .before .before .word-at .ensures) ∙ c .before .before .match .keys1)
+returns c = simp (c .compute .ensures, c .before .vec4-at .ensures, sym (c .before .before .before .word-at .ensures) ∙ c .before .before .match .keys1)
 
 returns-2 : tie.Need-returns-2
 unfolding answer
@@ -34,7 +34,7 @@ answer-spec =
     tie.close
     (tie.spec
     word-at-requires
-    vector4-at-requires
+    vec4-at-requires
     compute-requires
     zeros-requires
     reset-requires

@@ -13,19 +13,29 @@ new-requires c κs = search needs
 enum-known-l : tie.Need-enum-known-l
 enum-known-l c = search needs
 
-as-wanted-requires : tie.Need-as-wanted-requires
-as-wanted-requires c κs = search needs
+is-wanted-requires : tie.Need-is-wanted-requires
+is-wanted-requires c κs = search needs
 
 enum-told : tie.Need-enum-told
 enum-told c = search needs
 
 returns : tie.Need-returns
 unfolding fresh
-returns c = rw (c .as-wanted .ensures, ← c .before .before .before .before .before .word-at .ensures, ← c .before .before .before .before .new .ensures .0, c .before .before .l .given .1)
+returns c =
+    let wanted = c .before in
+    let made = wanted .before .before .before .before in
+    rw (← made .before .word-at .ensures, ← made .new .ensures .0, wanted .before .before .l .given .1, ← wanted .is-wanted .ensures, c .if1 .taken)
 
 returns-2 : tie.Need-returns-2
 unfolding fresh
-returns-2 c = rw (← c .before .before .before .word-at .ensures, ← c .before .before .new .ensures .0, c .enum-told .given .1)
+returns-2 c =
+    let wanted = c .before in
+    let made = wanted .before .before .before .before in
+    rw (← made .before .word-at .ensures, ← made .new .ensures .0, wanted .before .before .l .given .1, ← wanted .is-wanted .ensures, c .if1 .left)
+
+returns-3 : tie.Need-returns-3
+unfolding fresh
+returns-3 c = rw (← c .before .before .before .word-at .ensures, ← c .before .before .new .ensures .0, c .enum-told .given .1)
 
 pub fresh-spec : {M : Type 1} → statement M
 fresh-spec =
@@ -34,7 +44,8 @@ fresh-spec =
     word-at-requires
     new-requires
     enum-known-l
-    as-wanted-requires
+    is-wanted-requires
     enum-told
     returns
-    returns-2)
+    returns-2
+    returns-3)

@@ -32,11 +32,17 @@ reset-requires c κs = search needs
 
 returns : tie.Need-returns
 unfolding answer1
-returns c = simp (c .calculate .ensures, c .before .before .before .float-at3 .ensures, c .before .before .before .before .float-at2 .ensures, c .before .before .before .before .before .float-at .ensures, sym (c .before .before .word-at .ensures) ∙ c .before .match .keys1)
+returns c =
+    let kind = c .before .before in
+    let process = kind .before .before in
+    simp (c .calculate .ensures, kind .before .float-at3 .ensures, process .float-at2 .ensures, process .before .float-at .ensures, sym (kind .word-at .ensures) ∙ c .before .match .keys1)
 
 returns-2 : tie.Need-returns-2
 unfolding answer1
-returns-2 c = simp (c .calculate-with-derivative .ensures, c .before .float-at4 .ensures, c .before .before .before .before .float-at3 .ensures, c .before .before .before .before .before .float-at2 .ensures, c .before .before .before .before .before .before .float-at .ensures, sym (c .before .before .before .word-at .ensures) ∙ c .before .before .match .keys2)
+returns-2 c =
+    let kind = c .before .before .before in
+    let process = kind .before .before in
+    simp (c .calculate-with-derivative .ensures, c .before .float-at4 .ensures, kind .before .float-at3 .ensures, process .float-at2 .ensures, process .before .float-at .ensures, sym (kind .word-at .ensures) ∙ c .before .before .match .keys2)
 
 returns-3 : tie.Need-returns-3
 unfolding answer1

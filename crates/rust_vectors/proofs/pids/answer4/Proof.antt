@@ -6,11 +6,11 @@ use Rattle.rust_vectors.specs.Pids.{answer4}
 use Rattle.rust_vectors.proofs.pids.answer4.Statement.{statement}
 use Rattle.rust_vectors.proofs.pids.answer4.Tie as tie
 
-vector4-at-requires : tie.Need-vector4-at-requires
-vector4-at-requires c κs = search needs
+vec4-at-requires : tie.Need-vec4-at-requires
+vec4-at-requires c κs = search needs
 
-vector4-at-requires-2 : tie.Need-vector4-at-requires-2
-vector4-at-requires-2 c κs = search needs
+vec4-at-requires-2 : tie.Need-vec4-at-requires-2
+vec4-at-requires-2 c κs = search needs
 
 float-at-requires : tie.Need-float-at-requires
 float-at-requires c κs = search needs
@@ -21,8 +21,8 @@ word-at-requires c κs = search needs
 calculate-requires : tie.Need-calculate-requires
 calculate-requires c κs = search needs
 
-vector4-at-requires-3 : tie.Need-vector4-at-requires-3
-vector4-at-requires-3 c κs = search needs
+vec4-at-requires-3 : tie.Need-vec4-at-requires-3
+vec4-at-requires-3 c κs = search needs
 
 calculate-with-derivative-requires : tie.Need-calculate-with-derivative-requires
 calculate-with-derivative-requires c κs = search needs
@@ -35,11 +35,17 @@ reset-requires c κs = search needs
 
 returns : tie.Need-returns
 unfolding answer4
-returns c = simp (c .calculate .ensures, c .before .before .before .float-at .ensures, c .before .before .before .before .vector4-at2 .ensures, c .before .before .before .before .before .vector4-at .ensures, sym (c .before .before .word-at .ensures) ∙ c .before .match .keys1)
+returns c =
+    let kind = c .before .before in
+    let process = kind .before .before in
+    simp (c .calculate .ensures, kind .before .float-at .ensures, process .vec4-at2 .ensures, process .before .vec4-at .ensures, sym (kind .word-at .ensures) ∙ c .before .match .keys1)
 
 returns-2 : tie.Need-returns-2
 unfolding answer4
-returns-2 c = simp (c .calculate-with-derivative .ensures, c .before .vector4-at3 .ensures, c .before .before .before .before .float-at .ensures, c .before .before .before .before .before .vector4-at2 .ensures, c .before .before .before .before .before .before .vector4-at .ensures, sym (c .before .before .before .word-at .ensures) ∙ c .before .before .match .keys2)
+returns-2 c =
+    let kind = c .before .before .before in
+    let process = kind .before .before in
+    simp (c .calculate-with-derivative .ensures, c .before .vec4-at3 .ensures, kind .before .float-at .ensures, process .vec4-at2 .ensures, process .before .vec4-at .ensures, sym (kind .word-at .ensures) ∙ c .before .before .match .keys2)
 
 returns-3 : tie.Need-returns-3
 unfolding answer4
@@ -49,12 +55,12 @@ pub answer4-spec : {M : Type 1} → statement M
 answer4-spec =
     tie.close
     (tie.spec
-    vector4-at-requires
-    vector4-at-requires-2
+    vec4-at-requires
+    vec4-at-requires-2
     float-at-requires
     word-at-requires
     calculate-requires
-    vector4-at-requires-3
+    vec4-at-requires-3
     calculate-with-derivative-requires
     zeros-requires
     reset-requires

@@ -1,6 +1,6 @@
 -- `tick_block::inputs::line_words` meets its contract. Assumes nothing.
 use borrow.Author.Needs.{needs}
-use Rattle.tick_block.specs.Parts.{vector3At, vector4At}
+use Rattle.block_floats.specs.Floats.{vector3At, vector4At}
 use Rattle.tick_block.specs.Inputs.{firstWords}
 use Rattle.tick_block.proofs.inputs.line_words.Statement.{statement}
 use Rattle.tick_block.proofs.inputs.line_words.Tie as tie
