@@ -27,7 +27,9 @@ abs-requires-2 c κs = search needs
 
 returns : tie.Need-returns
 unfolding trackingErrors
-returns c = simp (c .before .before .before .before .before .before .sub .ensures, c .before .before .before .before .before .sub2 .ensures, c .before .before .before .before .hypot-xy .ensures, c .before .before .before .remainder .ensures, c .before .before .abs .ensures, c .before .hypot-xy2 .ensures, c .abs2 .ensures)
+returns c =
+    let d = c .before .before .before in
+    simp (d .before .before .before .sub .ensures, d .before .before .sub2 .ensures, d .before .hypot-xy .ensures, d .remainder .ensures, c .before .before .abs .ensures, c .before .hypot-xy2 .ensures, c .abs2 .ensures)
 
 pub tracking-errors-spec : {M : Type 1} → statement M
 tracking-errors-spec =

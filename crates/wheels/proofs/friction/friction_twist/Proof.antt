@@ -30,7 +30,9 @@ kept-if-requires-3 c κs = search needs
 
 returns : tie.Need-returns
 unfolding frictionTwist
-returns c = simp (c .before .before .before .before .before .before .before .rotate-to-local .ensures, c .before .before .before .before .before .before .rotate-to-local2 .ensures, c .before .before .before .before .before .rotate-to-local3 .ensures, c .before .before .before .before .linear-comp-on .ensures, c .before .before .before .angular-comp-on .ensures, c .before .before .kept-if .ensures, c .before .kept-if2 .ensures, c .kept-if3 .ensures)
+returns c =
+    let d = c .before .before .before .before in
+    simp (d .before .before .before .rotate-to-local .ensures, d .before .before .rotate-to-local2 .ensures, d .before .rotate-to-local3 .ensures, d .linear-comp-on .ensures, c .before .before .before .angular-comp-on .ensures, c .before .before .kept-if .ensures, c .before .kept-if2 .ensures, c .kept-if3 .ensures)
 
 pub friction-twist-spec : {M : Type 1} → statement M
 friction-twist-spec =
