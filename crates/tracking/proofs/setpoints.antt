@@ -1,2 +1,3 @@
--- Cases of `setpoints`, by computation. Assumes nothing.
+-- Laws and cases of `setpoints`. Assumes nothing.
 pub mod Cases
+pub mod Pid

@@ -5,25 +5,41 @@ use Rattle.ieee754.specs.Remainder.{remainderBy, tau}
 use Rattle.linear.specs.declared.Vector3f.{Vector3f}
 use Rattle.linear.specs.declared.Vector6f.{Vector6f}
 use Rattle.linear.specs.Vector.{zeros3, sumOf, differenceOf, scaled}
+use Rattle.controller_params.specs.declared.PidGains.{PidGains}
 use Rattle.controller_params.specs.Params.{linearPosePidGains, angularPosePidGains, posePidAntiJitterThresh, poseAccelFeedbackGain, poseVelFeedforwardGain}
 use Rattle.pid.specs.declared.AntiJitterThresh.the-variants.{Below}
 use Rattle.pid.specs.declared.OutputLimits.the-variants.{Absent}
+use Rattle.pid.specs.declared.PidController.{PidController}
 use Rattle.pid.specs.declared.PidController3.{PidController3}
-use Rattle.pid.specs.Axis.{newController}
 use Rattle.pid.specs.Widths.{calculatedWithDerivative3}
 use Rattle.tracking.specs.declared.ManeuverSetpoints.{ManeuverSetpoints}
+use Rattle.tracking.specs.declared.PidMemory.{PidMemory}
 use Rattle.tracking.specs.declared.TrackingAnswer.{TrackingAnswer}
 
 -- document 01, 'Plan': hold and no vision give zeros
 unfoldable pub zeroSetpoints : ManeuverSetpoints
 zeroSetpoints = record { «body_twist» = zeros3; «body_accel» = zeros3 }
 
--- 'Steer', the PID that tracking starts with: the linear gains for x and y, the angular ones for the heading, a threshold for each axis, no limits
-unfoldable pub posePid : PidController3
-posePid = record {
-  x = newController linearPosePidGains (Below (posePidAntiJitterThresh .x)) Absent;
-  y = newController linearPosePidGains (Below (posePidAntiJitterThresh .y)) Absent;
-  z = newController angularPosePidGains (Below (posePidAntiJitterThresh .z)) Absent;
+-- what the PID remembers at the start and after its reset
+unfoldable pub emptyPid : PidMemory
+emptyPid = record { «prev_error» = zeros3; «integrated_error» = zeros3 }
+
+-- an axis with these gains and this threshold, no limits, and what it remembers
+unfoldable pub poseAxis : PidGains → Float → Float → Float → PidController
+poseAxis gain thresh error sum = record { gain = gain; «anti_jitter_thresh» = Below thresh; «output_limits» = Absent; «prev_error» = error; «integrated_error» = sum }
+
+-- 'Steer', the PID of tracking: the linear gains for x and y, the angular ones for the heading, a threshold for each axis
+unfoldable pub posePid : PidMemory → PidController3
+posePid m = record {
+  x = poseAxis linearPosePidGains (posePidAntiJitterThresh .x) (m .«prev_error» .x) (m .«integrated_error» .x);
+  y = poseAxis linearPosePidGains (posePidAntiJitterThresh .y) (m .«prev_error» .y) (m .«integrated_error» .y);
+  z = poseAxis angularPosePidGains (posePidAntiJitterThresh .z) (m .«prev_error» .z) (m .«integrated_error» .z);
+}
+
+unfoldable pub pidMemory : PidController3 → PidMemory
+pidMemory c = record {
+  «prev_error» = record { x = c .x .«prev_error»; y = c .y .«prev_error»; z = c .z .«prev_error» };
+  «integrated_error» = record { x = c .x .«integrated_error»; y = c .y .«integrated_error»; z = c .z .«integrated_error» };
 }
 
 -- 'Steer', `calc_tracking_setpoints`: the sample's place, its heading the one within half a turn of the estimate's, by the remainder of 'Stand-ins'
@@ -39,10 +55,10 @@ unfoldable pub accelSetpoint : Vector3f → Vector3f
 accelSetpoint feedback = sumOf zeros3 (scaled feedback poseAccelFeedbackGain)
 
 -- 'Steer', `calc_tracking_setpoints`: from the estimate and a sample's state, over dt. The PID goes to the wrapped place, with the velocities' difference as derivative
-unfoldable pub trackingSetpoints : PidController3 → Vector6f → Vector6f → Float → TrackingAnswer
+unfoldable pub trackingSetpoints : PidMemory → Vector6f → Vector6f → Float → TrackingAnswer
 trackingSetpoints pid estimate sample dt =
-    let answer = calculatedWithDerivative3 pid (wrapped (sample .pose) (estimate .pose)) (estimate .pose) (differenceOf (sample .twist) (estimate .twist)) dt in
+    let answer = calculatedWithDerivative3 (posePid pid) (wrapped (sample .pose) (estimate .pose)) (estimate .pose) (differenceOf (sample .twist) (estimate .twist)) dt in
     record {
       setpoints = record { «body_twist» = twistSetpoint (sample .twist); «body_accel» = accelSetpoint (answer .output) };
-      controller = answer .controller;
+      pid = pidMemory (answer .controller);
     }

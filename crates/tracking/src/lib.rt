@@ -5,17 +5,22 @@ pub mod recovery; // recovery.rt: the tracking error and what recovery makes of 
 
 use linear::Vector3f;
 use linear::Vector6f;
-use pid::PidController3;
 
 pub struct ManeuverSetpoints {
     pub body_twist: Vector3f,
     pub body_accel: Vector3f,
 }
 
-// What tracking answers, beside the pose's PID as the call leaves it.
+// What the pose's PID remembers; the rest of it is constant.
+pub struct PidMemory {
+    pub prev_error: Vector3f,
+    pub integrated_error: Vector3f,
+}
+
+// What tracking answers, beside the PID's memory as the call leaves it.
 pub struct TrackingAnswer {
     pub setpoints: ManeuverSetpoints,
-    pub controller: PidController3,
+    pub pid: PidMemory,
 }
 
 pub enum TrackingDivergenceState {

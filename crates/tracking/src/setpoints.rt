@@ -1,14 +1,16 @@
 // The setpoints that track a sample, in the modes that controller_params.rs chooses:
 // POSE_ACCEL_MODE is FeedbackOnly and POSE_VEL_MODE is FeedforwardOnly.
 ghost use mathlib.Core.Path.{_≡_};
-ghost use Rattle.tracking.specs.Setpoints.{zeroSetpoints, posePid, wrapped, twistSetpoint, accelSetpoint, trackingSetpoints};
+ghost use Rattle.tracking.specs.Setpoints.{zeroSetpoints, emptyPid, poseAxis, posePid, pidMemory, wrapped, twistSetpoint, accelSetpoint, trackingSetpoints};
 use crate::ManeuverSetpoints;
+use crate::PidMemory;
 use crate::TrackingAnswer;
 use controller_params::ANGULAR_POSE_PID_GAINS;
 use controller_params::LINEAR_POSE_PID_GAINS;
 use controller_params::POSE_ACCEL_FEEDBACK_GAIN;
 use controller_params::POSE_PID_ANTI_JITTER_THRESH;
 use controller_params::POSE_VEL_FEEDFORWARD_GAIN;
+use controller_params::PidGains;
 use ieee754::remainder::remainder;
 use linear::Vector3f;
 use linear::Vector6f;
@@ -28,27 +30,62 @@ impl ManeuverSetpoints {
     }
 }
 
-// `pose_pid_controller` of a new context: x and y alike, and the heading; no output limits.
-pub fn pose_pid() -> PidController3
-    ensures { λ r. ⌜ r ≡ posePid ⌝ }
+impl PidMemory {
+    // Nothing remembered: the start, and what the PID's reset leaves.
+    pub fn empty() -> PidMemory
+        ensures { λ r. ⌜ r ≡ emptyPid ⌝ }
+    {
+        PidMemory {
+            prev_error: Vector3f::zeros(),
+            integrated_error: Vector3f::zeros(),
+        }
+    }
+}
+
+// One axis of `pose_pid_controller`, with no output limits.
+fn pose_axis(gain: PidGains, thresh: f32, prev_error: f32, integrated_error: f32) -> PidController
+    ensures { λ r. ⌜ r ≡ poseAxis gain thresh «prev_error» «integrated_error» ⌝ }
+{
+    PidController {
+        gain,
+        anti_jitter_thresh: AntiJitterThresh::Below(thresh),
+        output_limits: OutputLimits::Absent,
+        prev_error,
+        integrated_error,
+    }
+}
+
+// `pose_pid_controller` of a context: x and y alike, and the heading.
+fn pose_pid(pid: PidMemory) -> PidController3
+    ensures { λ r. ⌜ r ≡ posePid pid ⌝ }
 {
     let thresh = POSE_PID_ANTI_JITTER_THRESH;
+    let e = pid.prev_error;
+    let i = pid.integrated_error;
     PidController3 {
-        x: PidController::new(
-            LINEAR_POSE_PID_GAINS,
-            AntiJitterThresh::Below(thresh.x),
-            OutputLimits::Absent,
-        ),
-        y: PidController::new(
-            LINEAR_POSE_PID_GAINS,
-            AntiJitterThresh::Below(thresh.y),
-            OutputLimits::Absent,
-        ),
-        z: PidController::new(
-            ANGULAR_POSE_PID_GAINS,
-            AntiJitterThresh::Below(thresh.z),
-            OutputLimits::Absent,
-        ),
+        x: pose_axis(LINEAR_POSE_PID_GAINS, thresh.x, e.x, i.x),
+        y: pose_axis(LINEAR_POSE_PID_GAINS, thresh.y, e.y, i.y),
+        z: pose_axis(ANGULAR_POSE_PID_GAINS, thresh.z, e.z, i.z),
+    }
+}
+
+fn memory_of(controller: PidController3) -> PidMemory
+    ensures { λ r. ⌜ r ≡ pidMemory controller ⌝ }
+{
+    let x = controller.x;
+    let y = controller.y;
+    let z = controller.z;
+    PidMemory {
+        prev_error: Vector3f {
+            x: x.prev_error,
+            y: y.prev_error,
+            z: z.prev_error,
+        },
+        integrated_error: Vector3f {
+            x: x.integrated_error,
+            y: y.integrated_error,
+            z: z.integrated_error,
+        },
     }
 }
 
@@ -83,26 +120,24 @@ fn accel_setpoint(feedback: Vector3f) -> Vector3f
 
 // traj_state and traj_accel are a sample's; the modes chosen don't use the acceleration.
 pub fn calc_tracking_setpoints(
-    controller: PidController3,
+    pid: PidMemory,
     state_estimate: Vector6f,
     traj_state: Vector6f,
     traj_accel: Vector3f,
     dt: f32,
 ) -> TrackingAnswer
-    ensures { λ r. ⌜ r ≡ trackingSetpoints controller «state_estimate» «traj_state» dt ⌝ }
+    ensures { λ r. ⌜ r ≡ trackingSetpoints pid «state_estimate» «traj_state» dt ⌝ }
 {
     let pose_estimate = state_estimate.pose;
     let traj_vel = traj_state.twist;
     let traj_pos = wrapped(traj_state.pose, pose_estimate);
     let twist_error = traj_vel.sub(state_estimate.twist);
-    let pid = controller.calculate_with_derivative(traj_pos, pose_estimate, twist_error, dt);
-    let after = pid.controller;
+    let answer = pose_pid(pid)
+        .calculate_with_derivative(traj_pos, pose_estimate, twist_error, dt);
+    let pid = memory_of(answer.controller);
     let setpoints = ManeuverSetpoints {
         body_twist: twist_setpoint(traj_vel),
-        body_accel: accel_setpoint(pid.output),
+        body_accel: accel_setpoint(answer.output),
     };
-    TrackingAnswer {
-        setpoints,
-        controller: after,
-    }
+    TrackingAnswer { setpoints, pid }
 }

@@ -1,0 +1,63 @@
+-- `control_context::ControlContext::follow` meets its contract. Assumes nothing.
+use borrow.Author.Needs.{needs}
+use Rattle.control_context.specs.Steer.{followed}
+use Rattle.control_context.proofs.ControlContext.follow.Statement.{statement}
+use Rattle.control_context.proofs.ControlContext.follow.Tie as tie
+
+enum-told : tie.Need-enum-told
+enum-told c = search needs
+
+zero-requires : tie.Need-zero-requires
+zero-requires c κs = search needs
+
+returns : tie.Need-returns
+unfolding followed
+returns c = rw (c .zero .ensures, c .before .enum-told .given .1)
+enum-told-2 : tie.Need-enum-told-2
+enum-told-2 c = search needs
+
+zero-requires-2 : tie.Need-zero-requires-2
+zero-requires-2 c κs = search needs
+
+returns-2 : tie.Need-returns-2
+unfolding followed
+returns-2 c = rw (c .zero2 .ensures, c .before .enum-told2 .given .1)
+enum-told-3 : tie.Need-enum-told-3
+enum-told-3 c = search needs
+
+held-or-requires : tie.Need-held-or-requires
+held-or-requires c κs = search needs
+
+track-requires : tie.Need-track-requires
+track-requires c κs = search needs
+
+returns-3 : tie.Need-returns-3
+unfolding followed
+returns-3 c = rw (c .track .ensures, c .before .held-or .ensures, c .before .before .before .enum-told3 .given .1)
+enum-known-answer : tie.Need-enum-known-answer
+enum-known-answer c = search needs
+
+track-requires-2 : tie.Need-track-requires-2
+track-requires-2 c κs = search needs
+
+returns-4 : tie.Need-returns-4
+unfolding followed
+returns-4 c = rw (c .track2 .ensures, c .before .before .answer .given .1)
+
+pub follow-spec : {M : Type 1} → statement M
+follow-spec =
+    tie.close
+    (tie.spec
+    enum-told
+    zero-requires
+    returns
+    enum-told-2
+    zero-requires-2
+    returns-2
+    enum-told-3
+    held-or-requires
+    track-requires
+    returns-3
+    enum-known-answer
+    track-requires-2
+    returns-4)

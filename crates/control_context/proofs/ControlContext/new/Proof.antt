@@ -1,0 +1,21 @@
+-- `control_context::ControlContext::new` meets its contract. Assumes nothing.
+use borrow.Author.Needs.{needs}
+use Rattle.control_context.specs.Context.{newContext}
+use Rattle.control_context.proofs.ControlContext.new.Statement.{statement}
+use Rattle.control_context.proofs.ControlContext.new.Tie as tie
+
+new-requires : tie.Need-new-requires
+new-requires c κs = search needs
+
+empty-requires : tie.Need-empty-requires
+empty-requires c κs = search needs
+
+empty-requires-2 : tie.Need-empty-requires-2
+empty-requires-2 c κs = search needs
+
+returns : tie.Need-returns
+unfolding newContext
+returns c = simp (c .before .before .new .ensures, c .before .empty .ensures, c .empty2 .ensures)
+
+pub new-spec : {M : Type 1} → statement M
+new-spec = tie.close (tie.spec new-requires empty-requires empty-requires-2 returns)

@@ -1,0 +1,35 @@
+-- `control_context::ControlContext::see` meets its contract. Assumes nothing.
+use borrow.Author.Needs.{needs}
+use Rattle.control_context.specs.Context.{seen}
+use Rattle.control_context.proofs.ControlContext.see.Statement.{statement}
+use Rattle.control_context.proofs.ControlContext.see.Tie as tie
+
+update-requires : tie.Need-update-requires
+update-requires c κs = search needs
+
+overwrites-requires : tie.Need-overwrites-requires
+overwrites-requires c κs = search needs
+
+empty-requires : tie.Need-empty-requires
+empty-requires c κs = search needs
+
+empty-requires-2 : tie.Need-empty-requires-2
+empty-requires-2 c κs = search needs
+
+returns : tie.Need-returns
+unfolding seen
+returns c = rw (← c .before .before .before .before .before .update .ensures, ← c .before .before .before .overwrites .ensures, ← c .before .empty .ensures, ← c .empty2 .ensures, c .before .before .if1 .taken)
+returns-2 : tie.Need-returns-2
+unfolding seen
+returns-2 c = rw (← c .before .before .before .update .ensures, ← c .before .overwrites .ensures, c .if1 .left)
+
+pub see-spec : {M : Type 1} → statement M
+see-spec =
+    tie.close
+    (tie.spec
+    update-requires
+    overwrites-requires
+    empty-requires
+    empty-requires-2
+    returns
+    returns-2)

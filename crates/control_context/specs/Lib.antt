@@ -1,0 +1,3 @@
+-- What the contracts of `control_context` cite. Definitions only. Assumes nothing.
+pub mod Context
+pub mod Steer

@@ -1,0 +1,53 @@
+// `ControlContext` by value: what the tick's calls keep from tick to tick, and the work of sight,
+// plan and steer on it. Whose turn it is, and what is refused, is `body_controller`'s.
+pub mod context; // context.rt: a new context, sight, plan, a reset
+pub mod steer; // steer.rt: tracking and recovery
+
+use linear::Vector6f;
+use maneuvers::ManeuverCommand;
+use maneuvers::Memory;
+use maneuvers::PlanAnswer;
+use tracking::ManeuverSetpoints;
+use tracking::PidMemory;
+use tracking::TrackingDivergenceState;
+use vision_gate::GateAction;
+use vision_gate::Vision;
+
+// `tracking_divergence_state`, in a struct of its own, as a field that is an enum can't be set.
+pub struct Divergence {
+    pub state: TrackingDivergenceState,
+}
+
+pub struct ControlContext {
+    pub vision: Vision,
+    pub memory: Memory,
+    pub divergence: Divergence,
+    pub pose_pid: PidMemory,
+    pub state_estimate: Vector6f,
+    pub prev_mode: u32,
+    pub wheels_disabled: bool,
+}
+
+// The outcome, beside the context as sight leaves it.
+pub struct Seen {
+    pub action: GateAction,
+    pub context: ControlContext,
+}
+
+// What plan leaves to steer.
+pub struct Planned {
+    pub answer: PlanAnswer,
+    pub cmd: ManeuverCommand,
+}
+
+// Plan's answer, beside the context as plan leaves it.
+pub struct Decided {
+    pub answer: PlanAnswer,
+    pub context: ControlContext,
+}
+
+// Setpoints, beside the context as steer leaves it.
+pub struct Tracked {
+    pub setpoints: ManeuverSetpoints,
+    pub context: ControlContext,
+}
