@@ -1,4 +1,4 @@
--- The answers of plan and steer at their turns have document 01's numbers, in its order of trial. Assumes nothing.
+-- Plan's answers at its turn have document 01's numbers, in its order of trial. Assumes nothing.
 use mathlib.Core.Path.{_≡_, refl, sym}
 use Prim.Native.Nat.{ℕ, suc}
 use mathlib.Core.Bool.{Bool, true, false, cond}
@@ -11,10 +11,9 @@ use Rattle.maneuvers.specs.declared.CommandWords.{CommandWords}
 use Rattle.maneuvers.specs.Command.{isMode, commandFrom, refusalNumber}
 use Rattle.body_controller.specs.declared.BodyController.{BodyController}
 use Rattle.body_controller.specs.declared.PlanInput.{PlanInput}
-use Rattle.body_controller.specs.declared.SteerInput.{SteerInput}
-use Rattle.body_controller.specs.declared.Planned.{Planned}
-use Rattle.body_controller.specs.Plan.{planned, planWith, planNumber}
-use Rattle.body_controller.specs.Steer.{limited, steered, failsAt, steerWith, steerNumber}
+use Rattle.body_controller.specs.declared.PlanResult.{PlanResult}
+use Rattle.body_controller.specs.Plan.{planned, planRefused, planWith, planOf, planNumber, planRefusal}
+use Rattle.body_controller.specs.Turn.{isPlan}
 
 -- ---- commands
 
@@ -38,7 +37,7 @@ clash n e = absurd (omega (arith, e))
 command-numbered : (c : BodyController) (i : PlanInput) (a : CommandAnswer) (known : Bool)
     → refusalNumber a ≡ cond known 0 4
     → planNumber (planWith a c i .answer) ≡ cond known (cond (i .«estimator_failed») 11 0) 4
-unfolding planned
+unfolding planned planRefused
 command-numbered c i Command.Refused true e = clash 3 e
 command-numbered c i Command.Refused false e = refl
 command-numbered c i (Command.Given cmd) false e = clash 3 (sym e)
@@ -49,16 +48,11 @@ command-numbered c i (Command.Given cmd) true e = go (i .«estimator_failed») r
     go false e = rw e
 
 -- what plan gives at its turn
-pub plan-number : (c : BodyController) (i : PlanInput) → planNumber (planWith (commandFrom (i .mode) (i .words)) c i .answer) ≡ cond (isMode (i .mode)) (cond (i .«estimator_failed») 11 0) 4
+plan-number : (c : BodyController) (i : PlanInput) → planNumber (planWith (commandFrom (i .mode) (i .words)) c i .answer) ≡ cond (isMode (i .mode)) (cond (i .«estimator_failed») 11 0) 4
 plan-number c i = command-numbered c i (commandFrom (i .mode) (i .words)) (isMode (i .mode)) (command-number (i .mode) (i .words))
 
--- ---- the planner
-
--- what steer gives at its turn
-pub steer-number : (p : Planned) (c : BodyController) (i : SteerInput) → steerNumber (steerWith p c i .answer) ≡ cond (failsAt p i) 12 0
-unfolding steerWith steered limited
-steer-number p c i = go (failsAt p i) refl
-  where
-    go : (b : Bool) → failsAt p i ≡ b → steerNumber (steerWith p c i .answer) ≡ cond (failsAt p i) 12 0
-    go true e = rw e
-    go false e = rw e
+-- the call at plan's turn
+pub at-plan : (c : BodyController) (i : PlanInput) (r : PlanResult) → isPlan (c .turn) ≡ true → r ≡ planWith (commandFrom (i .mode) (i .words)) c i
+    → (r ≡ planOf c i) × (planNumber (r .answer) ≡ planRefusal c i)
+unfolding planOf
+at-plan c i r t e = rw (e, t) (refl, plan-number c i)

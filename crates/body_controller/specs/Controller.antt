@@ -1,40 +1,43 @@
--- A new controller, and the turn passed on: document 01, 'The plain drive' and 'The tick's four calls'. Assumes nothing.
+-- A new controller, and the reset call: document 01, 'The plain drive' and 'The tick's four calls'. Assumes nothing.
 use Prim.Native.Nat.{ℕ}
-use mathlib.Core.Bool.{true}
-use Rattle.linear.specs.Vector.{zeros3, zeros4, zeros6}
+use mathlib.Core.Bool.{false}
+use lib.Ieee.{binary32, ofBits}
+use Rattle.linear.specs.Vector.{zeros3, zeros6}
 use Rattle.tick_length.specs.declared.TickLengthAnswer.{TickLengthAnswer}
 use Rattle.tick_length.specs.declared.TickLengthAnswer.the-variants as Length
 use Rattle.tick_length.specs.TickLength.{tickLengthOf}
-use Rattle.vision_gate.specs.Vision.{newVision}
-use Rattle.maneuvers.specs.Memory.{emptyMemory}
-use Rattle.tracking.specs.declared.TrackingDivergenceState.the-variants.{Normal}
-use Rattle.tracking.specs.Setpoints.{posePid}
+use Rattle.maneuvers.specs.declared.ManeuverCommand.the-variants.{Off}
+use Rattle.maneuvers.specs.declared.PlanAnswer.the-variants.{Hold}
+use Rattle.control_context.specs.declared.ControlContext.{ControlContext}
+use Rattle.control_context.specs.declared.Planned.{Planned}
+use Rattle.control_context.specs.Context.{newContext}
 use Rattle.body_controller.specs.declared.BodyController.{BodyController}
 use Rattle.body_controller.specs.declared.Choices.{Choices}
-use Rattle.body_controller.specs.declared.Kept.{Kept}
 use Rattle.body_controller.specs.declared.NewAnswer.{NewAnswer}
 use Rattle.body_controller.specs.declared.NewAnswer.the-variants.{Made, Refused}
-use Rattle.tick_parts.specs.declared.Outputs.{Outputs}
+use Rattle.body_controller.specs.declared.Steered.{Steered}
 use Rattle.tick_parts.specs.declared.Refusal.the-variants.{TickLength}
-use Rattle.body_controller.specs.declared.Turn.{Turn}
-use Rattle.body_controller.specs.declared.Turn.the-variants as Turns
 use Rattle.tick_parts.specs.Refusal.{refusalNumber}
 use Rattle.tick_parts.specs.Counts.{noCounts}
 use Rattle.tick_parts.specs.Outputs.{noOutputs}
 
 -- ---- the start
 
+-- before the first plan and the first steer; read by no call
+abbrev pub noPlan : Planned
+noPlan = record { answer = Hold; cmd = Off }
+
+abbrev pub noSteer : Steered
+noSteer = record { «body_twist» = zeros3; «body_accel» = zeros3; «vel_clamped» = false; cos = ofBits binary32 0; sin = ofBits binary32 0 }
+
 -- 'as the Rust's new controller does, at sight's turn, all counts 0'
 unfoldable pub started : Choices → BodyController
 started choices = record {
   choices = choices;
-  vision = newVision;
-  memory = emptyMemory;
-  phase = record { state = Normal; turn = Turns.Sight };
-  «pose_pid_controller» = posePid;
-  «state_estimate» = zeros6;
-  «prev_mode» = 0;
-  «wheels_disabled» = true;
+  context = newContext zeros6;
+  turn = 0;
+  planned = noPlan;
+  steered = noSteer;
   outputs = noOutputs;
   ticks = 0;
   counts = noCounts;
@@ -55,31 +58,31 @@ newNumber (Refused r) = refusalNumber r
 
 -- ---- the turn
 
--- the turn passed on, and nothing else
-unfoldable pub inTurn : BodyController → Turn → BodyController
-inTurn c turn = record {
+-- another context and another turn, and nothing else
+abbrev pub turnedTo : ℕ → ControlContext → BodyController → BodyController
+turnedTo turn context c = record {
   choices = c .choices;
-  vision = c .vision;
-  memory = c .memory;
-  phase = record { state = c .phase .state; turn = turn };
-  «pose_pid_controller» = c .«pose_pid_controller»;
-  «state_estimate» = c .«state_estimate»;
-  «prev_mode» = c .«prev_mode»;
-  «wheels_disabled» = c .«wheels_disabled»;
+  context = context;
+  turn = turn;
+  planned = c .planned;
+  steered = c .steered;
   outputs = c .outputs;
   ticks = c .ticks;
   counts = c .counts;
 }
 
--- ---- for a reader
+-- ---- the reset call
 
--- each part as the controller has it
-unfoldable pub keptOf : BodyController → Kept
-keptOf c = record {
-  vision = c .vision;
-  memory = c .memory;
-  «pose_pid_controller» = c .«pose_pid_controller»;
-  «state_estimate» = c .«state_estimate»;
-  «prev_mode» = c .«prev_mode»;
-  outputs = c .outputs;
+-- 'it does what recovery's reset does, zeroes the outputs, disables the wheels and sets the previous mode to off; counts, tick number and
+-- estimate stay': the context is a new one around the estimate
+unfoldable pub resetOf : BodyController → BodyController
+resetOf c = record {
+  choices = c .choices;
+  context = newContext (c .context .«state_estimate»);
+  turn = 0;
+  planned = c .planned;
+  steered = c .steered;
+  outputs = noOutputs;
+  ticks = c .ticks;
+  counts = c .counts;
 }

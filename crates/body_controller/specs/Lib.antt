@@ -1,7 +1,6 @@
 -- What the contracts of `body_controller` cite. Definitions only. Assumes nothing.
 pub mod Turn
 pub mod Controller
-pub mod Reset
 pub mod Sight
 pub mod Plan
 pub mod Steer

@@ -1,15 +1,12 @@
 -- Plan, document 01, 'The tick's four calls' and 'When a call is turned away'. Assumes nothing.
 use Prim.Native.Nat.{ℕ}
-use mathlib.Core.Bool.{Bool, true, false, cond, _||_}
-use Rattle.vision_gate.specs.Vision.{active}
+use mathlib.Core.Bool.{cond}
 use Rattle.maneuvers.specs.declared.ManeuverCommand.{ManeuverCommand}
 use Rattle.maneuvers.specs.declared.CommandAnswer.{CommandAnswer}
 use Rattle.maneuvers.specs.declared.CommandAnswer.the-variants as Command
-use Rattle.maneuvers.specs.declared.PlanAnswer.{PlanAnswer}
-use Rattle.maneuvers.specs.declared.Decision.{Decision}
 use Rattle.maneuvers.specs.Command.{isMode, commandFrom}
-use Rattle.maneuvers.specs.Plan.{decided, disablesWheels}
-use Rattle.tracking.specs.Recovery.{isRecovering}
+use Rattle.control_context.specs.declared.Decided.{Decided}
+use Rattle.control_context.specs.Context.{decidedOn}
 use Rattle.body_controller.specs.declared.BodyController.{BodyController}
 use Rattle.body_controller.specs.declared.PlanInput.{PlanInput}
 use Rattle.body_controller.specs.declared.PlanCallAnswer.{PlanCallAnswer}
@@ -17,31 +14,26 @@ use Rattle.body_controller.specs.declared.PlanCallAnswer.the-variants.{A
 use Rattle.body_controller.specs.declared.PlanResult.{PlanResult}
 use Rattle.tick_parts.specs.declared.Refusal.{Refusal}
 use Rattle.tick_parts.specs.declared.Refusal.the-variants.{OutOfTurn, Mode, EstimatorFailed}
-use Rattle.body_controller.specs.declared.Turn.the-variants as Turns
 use Rattle.tick_parts.specs.Refusal.{refusalNumber}
-use Rattle.body_controller.specs.Controller.{inTurn}
+use Rattle.body_controller.specs.Controller.{turnedTo}
 use Rattle.body_controller.specs.Turn.{isPlan}
 
--- the one decision, on this input's command
-abbrev pub decisionOn : BodyController → PlanInput → ManeuverCommand → Decision
-decisionOn c i cmd =
-    decided (i .mode) (i .halt) (isRecovering (c .phase .state)) (active (c .vision .«time_since_vision_update_s»)) cmd (c .memory) (c .«prev_mode») (i .«state_estimate»)
+-- plan's answer and context on this input's command
+abbrev pub decisionOf : BodyController → PlanInput → ManeuverCommand → Decided
+decisionOf c i cmd = decidedOn (c .context) (i .mode) (i .halt) cmd (i .«state_estimate»)
 
--- an accepted call: the estimate is set; then answer, drops and previous mode
+-- an accepted call: its answer and the command are left to steer
 unfoldable pub planned : BodyController → PlanInput → ManeuverCommand → PlanResult
 planned c i cmd =
-    let d = decisionOn c i cmd in
+    let d = decisionOf c i cmd in
     record {
       answer = Accepted (d .answer);
       controller = record {
         choices = c .choices;
-        vision = c .vision;
-        memory = d .memory;
-        phase = record { state = c .phase .state; turn = Turns.Steer (record { answer = d .answer; cmd = cmd }) };
-        «pose_pid_controller» = c .«pose_pid_controller»;
-        «state_estimate» = i .«state_estimate»;
-        «prev_mode» = d .«prev_mode»;
-        «wheels_disabled» = c .«wheels_disabled» || disablesWheels (d .answer);
+        context = d .context;
+        turn = 2;
+        planned = record { answer = d .answer; cmd = cmd };
+        steered = c .steered;
         outputs = c .outputs;
         ticks = c .ticks;
         counts = c .counts;
@@ -49,16 +41,16 @@ planned c i cmd =
     }
 
 -- a refusal, with the controller that it leaves
-abbrev pub planRefused : Refusal → BodyController → PlanResult
+unfoldable pub planRefused : Refusal → BodyController → PlanResult
 planRefused r c = record { answer = Refused r; controller = c }
 
 -- at plan's turn: 4 changes nothing; 'an estimator failure ends the tick at plan before plan sets anything'
 abbrev pub planWith : CommandAnswer → BodyController → PlanInput → PlanResult
 planWith Command.Refused c i = planRefused Mode c
-planWith (Command.Given cmd) c i = cond (i .«estimator_failed») (planRefused EstimatorFailed (inTurn c Turns.Sight)) (planned c i cmd)
+planWith (Command.Given cmd) c i = cond (i .«estimator_failed») (planRefused EstimatorFailed (turnedTo 0 (c .context) c)) (planned c i cmd)
 
 unfoldable pub planOf : BodyController → PlanInput → PlanResult
-planOf c i = cond (isPlan (c .phase .turn)) (planWith (commandFrom (i .mode) (i .words)) c i) (planRefused OutOfTurn c)
+planOf c i = cond (isPlan (c .turn)) (planWith (commandFrom (i .mode) (i .words)) c i) (planRefused OutOfTurn c)
 
 -- document 01's number for an answer, and 0 for one that is no refusal
 abbrev pub planNumber : PlanCallAnswer → ℕ
@@ -67,4 +59,4 @@ planNumber (Refused r) = refusalNumber r
 
 -- 2, then 4, then 11
 abbrev pub planRefusal : BodyController → PlanInput → ℕ
-planRefusal c i = cond (isPlan (c .phase .turn)) (cond (isMode (i .mode)) (cond (i .«estimator_failed») 11 0) 4) 2
+planRefusal c i = cond (isPlan (c .turn)) (cond (isMode (i .mode)) (cond (i .«estimator_failed») 11 0) 4) 2

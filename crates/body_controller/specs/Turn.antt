@@ -1,18 +1,20 @@
--- The turn, a term of document 01: which of the tick's four calls is next. Assumes nothing.
-use mathlib.Core.Bool.{Bool, true, false}
-use Rattle.body_controller.specs.declared.Turn.{Turn}
-use Rattle.body_controller.specs.declared.Turn.the-variants.{Sight, Plan, Steer, Finish}
+-- The turn, a term of document 01: which of the tick's four calls is next, by its place in the tick. Assumes nothing.
+use Prim.Native.Nat.{ℕ}
+use mathlib.Core.Bool.{Bool, not}
+use lib.Dec.{eqb, ltb}
 
 -- it is sight's turn
-abbrev pub isSight : Turn → Bool
-isSight Sight = true
-isSight Plan = false
-isSight (Steer p) = false
-isSight (Finish s) = false
+abbrev pub isSight : ℕ → Bool
+isSight turn = eqb turn 0
 
 -- it is plan's turn
-abbrev pub isPlan : Turn → Bool
-isPlan Sight = false
-isPlan Plan = true
-isPlan (Steer p) = false
-isPlan (Finish s) = false
+abbrev pub isPlan : ℕ → Bool
+isPlan turn = eqb turn 1
+
+-- it is steer's turn
+abbrev pub isSteer : ℕ → Bool
+isSteer turn = eqb turn 2
+
+-- it is finish's turn: 3. No call leads beyond it; what lies there counts as finish's, so that every number is some call's turn
+abbrev pub isFinish : ℕ → Bool
+isFinish turn = not (ltb turn 3)

@@ -1,12 +1,13 @@
 // `BodyController` by value: a tick is the calls sight, plan, steer and finish, in this order, and
 // reset may come at any turn. Each call takes the controller and hands it back beside its answer.
-pub mod controller; // controller.rt: the controller, new, reset and its marks
+pub mod controller; // controller.rt: the controller, new, reset and its parts for readers
 pub mod finish; // finish.rt: outputs
 pub mod plan; // plan.rt: the estimate and the decision
 pub mod sight; // sight.rt: the gate
 pub mod steer; // steer.rt: tracking and recovery
-pub mod turns; // turns.rt: which call is next, and what it needs of the ones before
 
+use control_context::ControlContext;
+use control_context::Planned;
 use linear::Matrix3;
 use linear::Matrix3x4;
 use linear::Matrix4x3;
@@ -14,19 +15,13 @@ use linear::Vector3f;
 use linear::Vector4f;
 use linear::Vector6f;
 use maneuvers::CommandWords;
-use maneuvers::ManeuverCommand;
-use maneuvers::Memory;
 use maneuvers::PlanAnswer;
 use maneuvers::Sample;
-use pid::PidController3;
 use tick_length::TickLength;
 use tick_parts::Counts;
 use tick_parts::Outputs;
 use tick_parts::Refusal;
-use tracking::ManeuverSetpoints;
-use tracking::TrackingDivergenceState;
 use vision_gate::GateAction;
-use vision_gate::Vision;
 
 // What is chosen once, at the start.
 pub struct Choices {
@@ -35,26 +30,16 @@ pub struct Choices {
 
 pub struct BodyController {
     pub(crate) choices: Choices,
-    pub(crate) vision: Vision,
-    pub(crate) memory: Memory,
-    pub(crate) phase: Phase,
-    pub(crate) pose_pid_controller: PidController3,
-    pub(crate) state_estimate: Vector6f,
-    pub(crate) prev_mode: u32,
-    pub(crate) wheels_disabled: bool,
+    pub(crate) context: ControlContext,
+    // By the calls' order in a tick: SIGHT, PLAN, STEER or FINISH.
+    pub(crate) turn: u8,
+    // Read at steer's turn alone, which plan gives.
+    pub(crate) planned: Planned,
+    // Read at finish's turn alone, which steer gives.
+    pub(crate) steered: Steered,
     pub(crate) outputs: Outputs,
     pub(crate) ticks: u32,
     pub(crate) counts: Counts,
-}
-
-// What a controller keeps from tick to tick beside turn, marks and counts, for a reader to compare.
-pub struct Kept {
-    pub vision: Vision,
-    pub memory: Memory,
-    pub pose_pid_controller: PidController3,
-    pub state_estimate: Vector6f,
-    pub prev_mode: u32,
-    pub outputs: Outputs,
 }
 
 // A controller, or document 01's refusal 1.
@@ -169,18 +154,6 @@ pub struct SteerResult {
     pub controller: BodyController,
 }
 
-// Setpoints, beside the controller that gave them.
-pub struct Setpoints {
-    pub setpoints: ManeuverSetpoints,
-    pub controller: BodyController,
-}
-
-// What plan leaves to steer.
-pub struct Planned {
-    pub answer: PlanAnswer,
-    pub cmd: ManeuverCommand,
-}
-
 // What steer leaves to finish: limited setpoints, and the cosine and sine of the estimate's heading.
 pub struct Steered {
     pub body_twist: Vector3f,
@@ -190,16 +163,8 @@ pub struct Steered {
     pub sin: f32,
 }
 
-// The turn, a term of document 01.
-pub enum Turn {
-    Sight,
-    Plan,
-    Steer(Planned),
-    Finish(Steered),
-}
-
-// The two states that calls branch on.
-pub struct Phase {
-    pub state: TrackingDivergenceState,
-    pub turn: Turn,
+// What steer leaves to finish, beside its answer.
+pub struct Limited {
+    pub friction_twist: Vector3f,
+    pub steered: Steered,
 }
