@@ -1,6 +1,8 @@
 // The controller, made by `new`, and its parts for readers. The calls are in the modules of their names.
 ghost use mathlib.Core.Path.{_≡_};
 ghost use Rattle.tick_length.specs.TickLength.{refusalOf};
+ghost use Rattle.vision_gate.specs.Vision.{active};
+ghost use Rattle.tracking.specs.Recovery.{isRecovering};
 ghost use Rattle.body_controller.specs.Controller.{started, newOf, newNumber, resetOf};
 use crate::BodyController;
 use crate::Choices;
@@ -20,8 +22,11 @@ use tick_parts::Refusal;
 
 // The turn, a term of document 01, by the calls' order in a tick.
 pub const SIGHT: u8 = 0;
+
 pub const PLAN: u8 = 1;
+
 pub const STEER: u8 = 2;
+
 pub const FINISH: u8 = 3;
 
 impl BodyController {
@@ -82,6 +87,21 @@ impl BodyController {
         ensures { λ r. ⌜ r ≡ self .counts ⌝ }
     {
         self.counts
+    }
+
+    pub fn vision_active(self) -> bool
+        ensures { λ r. ⌜ r ≡ active (self .context .vision .«time_since_vision_update_s») ⌝ }
+    {
+        self.context.vision.vision_active()
+    }
+
+    pub fn tracking_divergence_recovery_active(self) -> bool
+        ensures { λ r. ⌜ r ≡ isRecovering (self .context .divergence .state) ⌝ }
+    {
+        let context = self.context;
+        let divergence = context.divergence;
+        let state = divergence.state;
+        state.recovering()
     }
 
     pub fn context(self) -> ControlContext

@@ -18,7 +18,8 @@ impl BodyController {
     fn decide(mut self, i: PlanInput, cmd: ManeuverCommand) -> PlanResult
         ensures { λ r. ⌜ r ≡ planned self i cmd ⌝ }
     {
-        let decided = self.context.decide_on(i.mode, i.halt, cmd, i.state_estimate);
+        let decided = self.context
+            .decide_on(i.mode, i.halt, cmd, i.state_estimate);
         let answer = decided.answer;
         let context = decided.context;
         let planned = Planned { answer, cmd };

@@ -18,7 +18,13 @@ use wheels::limits::clamp_twist;
 use wheels::limits::stop_scaled;
 
 // The tick's setpoints, limited, and the friction twist.
-fn limit(setpoints: ManeuverSetpoints, estimate: Vector6f, stop: bool, cos: f32, sin: f32) -> Limited
+fn limit(
+    setpoints: ManeuverSetpoints,
+    estimate: Vector6f,
+    stop: bool,
+    cos: f32,
+    sin: f32,
+) -> Limited
     ensures { λ r. ⌜ r ≡ limited setpoints estimate stop cos sin ⌝ }
 {
     let clamp = clamp_twist(stop_scaled(stop, setpoints.body_twist));
@@ -49,7 +55,13 @@ impl BodyController {
             self.choices.tick.seconds(),
         );
         let context = tracked.context;
-        let limited = limit(tracked.setpoints, context.state_estimate, i.stop, i.cos, i.sin);
+        let limited = limit(
+            tracked.setpoints,
+            context.state_estimate,
+            i.stop,
+            i.cos,
+            i.sin,
+        );
         let steered = limited.steered;
         let friction_twist = limited.friction_twist;
         self.context = context;

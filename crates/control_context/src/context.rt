@@ -60,7 +60,8 @@ impl ControlContext {
     ) -> Seen
         ensures { λ r. ⌜ r ≡ seen self «vision_update» «vision_pose_meas» «predicted_state» dt ⌝ }
     {
-        let answer = self.vision.update(vision_update, vision_pose_meas, predicted_state, dt);
+        let answer = self.vision
+            .update(vision_update, vision_pose_meas, predicted_state, dt);
         let action = answer.action;
         let vision = answer.vision;
         self.vision = vision;

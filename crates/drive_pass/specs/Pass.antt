@@ -61,7 +61,7 @@ refusedBy n p = record { line = Lines.Refused (record { number = nextNumber p; r
 -- 'number, letter, V or - for active at its end, N or B (recovering)', and the ending
 unfoldable pub endedBy : BodyController → Heading → Ending → Driven
 endedBy c h ending = record {
-  line = Lines.Tick (record { number = h .number; letter = h .letter; active = active (c .vision .«time_since_vision_update_s»); recovering = isRecovering (c .phase .state); ending = ending });
+  line = Lines.Tick (record { number = h .number; letter = h .letter; active = active (c .context .vision .«time_since_vision_update_s»); recovering = isRecovering (c .context .divergence .state); ending = ending });
   pass = Driving c;
 }
 

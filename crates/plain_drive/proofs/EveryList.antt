@@ -28,9 +28,9 @@ use Rattle.body_controller.specs.declared.SightResult.{SightResult}
 use Rattle.tick_parts.specs.declared.Refusal.the-variants.{OutOfTurn, TickLimit}
 use Rattle.body_controller.specs.Turn.{isSight}
 use Rattle.tick_parts.specs.Counts.{noCounts, countList}
-use Rattle.body_controller.specs.Controller.{started, madeFrom, newOf, newNumber}
-use Rattle.body_controller.specs.Reset.{resetOf}
-use Rattle.body_controller.specs.Sight.{tickLimit, visionSeen, sighted, sightRefused, sightOf}
+use Rattle.control_context.specs.Context as Context
+use Rattle.body_controller.specs.Controller.{started, madeFrom, newOf, newNumber, resetOf}
+use Rattle.body_controller.specs.Sight.{tickLimit, seenBy, sightAnswer, sighted, sightRefused, sightOf}
 use Rattle.body_controller.specs.Plan.{planOf}
 use Rattle.body_controller.specs.Steer.{steerOf}
 use Rattle.body_controller.specs.Finish.{finishOf}
@@ -66,7 +66,7 @@ begun k c e = go (isTickLength k) refl e
       least = in-range k g .0;
       most = in-range k g .1;
       tick = unfold started in refl;
-      state = unfold started driveOf driven callsOf start newVision emptyMemory noCounts in refl;
+      state = unfold started Context.newContext driveOf driven callsOf start newVision emptyMemory noCounts in refl;
       replies = unfold repliesOf drivenReplies callsOf in refl;
     })
 
@@ -135,13 +135,13 @@ tracking-held k m true s t e v = v
 tracking-held k m false s t e v = absurd (rw e at (v .1))
 
 -- a sight call that is accepted answers the gate's outcome
-accepted-outcome : (c : BodyController) (i : SightInput) → isTick (sightReply (sightOf c i .answer)) ≡ true → took (sightReply (sightOf c i .answer)) ≡ takes (visionSeen c i .action)
-unfolding sightOf sighted
-accepted-outcome c i = go (isSight (c .phase .turn)) (ltb (c .ticks) tickLimit)
+accepted-outcome : (c : BodyController) (i : SightInput) → isTick (sightReply (sightOf c i .answer)) ≡ true → took (sightReply (sightOf c i .answer)) ≡ takes (seenBy c i .action)
+unfolding sightOf sighted sightAnswer
+accepted-outcome c i = go (isSight (c .turn)) (ltb (c .ticks) tickLimit)
   where
     go : (s t : Bool)
         → isTick (sightReply (cond s (cond t (sighted c i) (sightRefused TickLimit c)) (sightRefused OutOfTurn c) .answer)) ≡ true
-        → took (sightReply (cond s (cond t (sighted c i) (sightRefused TickLimit c)) (sightRefused OutOfTurn c) .answer)) ≡ takes (visionSeen c i .action)
+        → took (sightReply (cond s (cond t (sighted c i) (sightRefused TickLimit c)) (sightRefused OutOfTurn c) .answer)) ≡ takes (seenBy c i .action)
     go true true e = refl
     go true false e = absurd (true≢false (sym e))
     go false t e = absurd (true≢false (sym e))
@@ -151,14 +151,14 @@ widened : (k : ℕ) (h : List Entry) (c : BodyController) → Followed k h c →
     → 1 ≤ D
     → D ≤ 64
     → 2048 * D ≤ since h * k
-    → c .vision .gate ≡ Tracking t
+    → c .context .vision .gate ≡ Tracking t
     → i .«vision_update» ≡ true
     → T (le (distance (i .«vision_pose_meas») (i .«predicted_state»)) (ofInt binary32 (pos D)))
-    → takes (visionSeen c i .action) ≡ true
-unfolding driveOf
+    → takes (seenBy c i .action) ≡ true
+unfolding driveOf Context.seen
 widened k h c f D t i l g r e seen near =
     rw (seen, f .tick)
-    (held-widens k (since h) D (c .vision) (f .most) l g r (tracking-held k (since h) (holding k h) (driveOf c) t e (watched-of k h c f .vision)) (i .«vision_pose_meas») (i .«predicted_state») near)
+    (held-widens k (since h) D (c .context .vision) (f .most) l g r (tracking-held k (since h) (holding k h) (driveOf c) t e (watched-of k h c f .vision)) (i .«vision_pose_meas») (i .«predicted_state») near)
 
 pub demand3 : Demand3
 unfolding driveOf
@@ -221,7 +221,7 @@ unfolding driveOf
 nothing-wraps k h c m =
     let f = followed k h c m in
     let b = bounded-of k h c f in
-    (b .ticks, b .counts, gathered-few (c .vision .gate) (watched-of k h c f .small))
+    (b .ticks, b .counts, gathered-few (c .context .vision .gate) (watched-of k h c f .small))
 
 -- ---- active means seen
 

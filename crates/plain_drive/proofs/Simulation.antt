@@ -1,10 +1,11 @@
 -- Each call does to the controller what the plain drive does to its state, answers as it does, and leaves the choices. Assumes nothing.
-use mathlib.Core.Path.{_≡_, refl, ap, _∙_}
+use mathlib.Core.Path.{_≡_, refl, sym, ap, subst, _∙_}
 use Prim.Native.Nat.{ℕ, _+_, _%_, _^_, _≤_}
 use native.Mathlib.Nat.{mod-eq-of-lt}
 use native.Mathlib.Omega.{arith}
 use mathlib.Core.Bool.{Bool, true, false, cond}
-use lib.Dec.{ltb}
+use borrow.Author.Tests.{eqb-true, eqb-false, le-ltb}
+use lib.Dec.{eqb, ltb}
 use lib.Ieee.{Float}
 use Rattle.linear.specs.declared.Vector4f.{Vector4f}
 use Rattle.tick_length.specs.TickLength.{secondsOf}
@@ -27,17 +28,17 @@ use Rattle.tick_parts.specs.declared.Counts.{Counts}
 use Rattle.body_controller.specs.declared.SightInput.{SightInput}
 use Rattle.body_controller.specs.declared.PlanInput.{PlanInput}
 use Rattle.body_controller.specs.declared.SteerInput.{SteerInput}
-use Rattle.body_controller.specs.declared.Setpoints.{Setpoints}
 use Rattle.body_controller.specs.declared.FinishInput.{FinishInput}
-use Rattle.body_controller.specs.declared.Planned.{Planned}
 use Rattle.body_controller.specs.declared.Steered.{Steered}
-use Rattle.body_controller.specs.declared.Turn.{Turn}
-use Rattle.body_controller.specs.declared.Turn.the-variants as Turns
 use Rattle.tick_parts.specs.Counts.{counted, countList}
-use Rattle.body_controller.specs.Controller.{inTurn}
-use Rattle.body_controller.specs.Reset.{contextReset, resetOf}
-use Rattle.body_controller.specs.Sight.{tickLimit, memoryAfter, visionSeen, sighted, sightOf}
-use Rattle.body_controller.specs.Plan.{planned, planWith, planOf}
+use Rattle.control_context.specs.declared.ControlContext.{ControlContext}
+use Rattle.control_context.specs.declared.Tracked.{Tracked}
+use Rattle.control_context.specs.Context as Context
+use Rattle.control_context.specs.Steer as Tracking
+use Rattle.body_controller.specs.Turn.{isSight, isPlan, isSteer, isFinish}
+use Rattle.body_controller.specs.Controller.{resetOf}
+use Rattle.body_controller.specs.Sight.{tickLimit, sightAnswer, sighted, sightOf}
+use Rattle.body_controller.specs.Plan.{planned, planRefused, planWith, planOf}
 use Rattle.body_controller.specs.Steer as Steer
 use Rattle.body_controller.specs.Finish.{finished, finishOf}
 use Rattle.plain_drive.specs.Calls.{sight, plan, steer, finish, reset, Reply, accepted}
@@ -67,6 +68,42 @@ counted-grown n AcceptJump h = rw (grows (n .jump) (h .1 .1 .1 .1 .1 .0))
 counted-grown n FirstReject h = rw (grows (n .first) (h .1 .1 .1 .1 .1 .1 .0))
 counted-grown n Reject h = rw (grows (n .refused) (h .1 .1 .1 .1 .1 .1 .1 .0))
 
+-- ---- whose turn it is
+
+-- a controller's turn in the plain drive's terms, and what each call's test of it gives
+pub record Tests (c : BodyController) (turn : Plain.DriveTurn) (first second third last : Bool) : Type 0 where
+  pub drive : driveOf c .turn ≡ turn
+  pub sight : isSight (c .turn) ≡ first
+  pub plan : isPlan (c .turn) ≡ second
+  pub steer : isSteer (c .turn) ≡ third
+  pub finish : isFinish (c .turn) ≡ last
+
+data Next (c : BodyController) : Type 0 where
+  at-sight : Tests c Plain.toSight true false false false → Next c
+  at-plan : Tests c Plain.toPlan false true false false → Next c
+  at-steer : Tests c (Plain.toSteer (c .planned .answer) (c .planned .cmd)) false false true false → Next c
+  at-finish : Tests c Plain.toFinish false false false true → Next c
+
+next : (c : BodyController) → Next c
+unfolding driveOf
+next c = go (isSight (c .turn)) (isPlan (c .turn)) (isSteer (c .turn)) refl refl refl
+  where
+    is : (n : ℕ) → eqb (c .turn) n ≡ true → c .turn ≡ n
+    is n e = eqb-true (c .turn) n e
+
+    go : (x y z : Bool) → isSight (c .turn) ≡ x → isPlan (c .turn) ≡ y → isSteer (c .turn) ≡ z → Next c
+    go true y z e f g = at-sight (record { drive = rw e; sight = e; plan = rw (is 0 e); steer = rw (is 0 e); finish = rw (is 0 e) })
+    go false true z e f g = at-plan (record { drive = rw (e, f); sight = e; plan = f; steer = rw (is 1 f); finish = rw (is 1 f) })
+    go false false true e f g = at-steer (record { drive = rw (e, f, g); sight = e; plan = f; steer = g; finish = rw (is 2 g) })
+    go false false false e f g =
+        at-finish
+        (record { drive = rw (e, f, g); sight = e; plan = f; steer = g; finish = rw (le-ltb (c .turn) 3 (omega (arith, eqb-false (c .turn) 0 e, eqb-false (c .turn) 1 f, eqb-false (c .turn) 2 g))) })
+
+-- the tick limit is tried on the same number
+within : (c : BodyController) (b : Bool) → ltb (c .ticks) tickLimit ≡ b → ltb (driveOf c .ticks) 16777216 ≡ b
+unfolding driveOf
+within c b e = e
+
 -- ---- sight
 
 -- both memories are dropped together
@@ -79,31 +116,37 @@ module _ (c : BodyController) (i : SightInput) (ticks : c .ticks ≤ 16777216) (
   abbrev dt : Float
   dt = secondsOf (c .choices .tick .k)
 
+  abbrev action : GateAction
+  action = visionAfter (c .context .vision) (i .«vision_update») (i .«vision_pose_meas») (i .«predicted_state») dt .action
+
   sighted-follows : Follows c (Plain.seen dt (driveOf c) i) (sightReply (sighted c i .answer)) (sighted c i .controller)
-  unfolding sighted visionAfter memoryAfter driveOf Plain.seen
+  unfolding sighted sightAnswer Context.seen visionAfter driveOf Plain.seen
   sighted-follows = record {
     reply = refl;
-    state = rw (dropped (overwrites (visionSeen c i .action)) (c .memory) .0, dropped (overwrites (visionSeen c i .action)) (c .memory) .1, grows (c .ticks) ticks, counted-grown (c .counts) (visionSeen c i .action) counts);
+    state = rw (dropped (overwrites action) (c .context .memory) .0, dropped (overwrites action) (c .context .memory) .1, grows (c .ticks) ticks, counted-grown (c .counts) action counts);
     choices = refl;
   }
 
+  abbrev OnSight : Plain.DriveTurn → Type 0
+  OnSight turn = Follows c (Plain.onSight turn dt (driveOf c) i) (sightReply (sightOf c i .answer)) (sightOf c i .controller)
+
   pub sight-follows : Follows c (Plain.step dt (driveOf c) (sight i)) (sightReply (sightOf c i .answer)) (sightOf c i .controller)
-  unfolding sightOf driveOf Plain.step
-  sight-follows = go (c .phase .turn) (ltb (c .ticks) tickLimit) refl refl
+  unfolding sightOf Plain.step
+  sight-follows = go (next c) (ltb (c .ticks) tickLimit) refl
     where
-      go : (t : Turn) (b : Bool) → c .phase .turn ≡ t → ltb (c .ticks) tickLimit ≡ b → Follows c (Plain.step dt (driveOf c) (sight i)) (sightReply (sightOf c i .answer)) (sightOf c i .controller)
-      go Turns.Sight true e f = rw (e, f) (rw e at sighted-follows)
-      go Turns.Sight false e f = rw (e, f) (record { reply = refl; state = refl; choices = refl })
-      go Turns.Plan b e f = rw e (record { reply = refl; state = refl; choices = refl })
-      go (Turns.Steer p) b e f = rw e (record { reply = refl; state = refl; choices = refl })
-      go (Turns.Finish s) b e f = rw e (record { reply = refl; state = refl; choices = refl })
+      go : Next c → (b : Bool) → ltb (c .ticks) tickLimit ≡ b → OnSight (driveOf c .turn)
+      go (at-sight t) true l = subst OnSight (sym (t .drive)) (rw (t .sight, l, within c true l) sighted-follows)
+      go (at-sight t) false l = subst OnSight (sym (t .drive)) (rw (t .sight, l, within c false l) (record { reply = refl; state = refl; choices = refl }))
+      go (at-plan t) b l = subst OnSight (sym (t .drive)) (rw (t .sight) (record { reply = refl; state = refl; choices = refl }))
+      go (at-steer t) b l = subst OnSight (sym (t .drive)) (rw (t .sight) (record { reply = refl; state = refl; choices = refl }))
+      go (at-finish t) b l = subst OnSight (sym (t .drive)) (rw (t .sight) (record { reply = refl; state = refl; choices = refl }))
 
 -- ---- plan
 
 module _ (c : BodyController) (i : PlanInput) where
   -- at plan's turn, by what the command's words gave
   command-follows : (a : CommandAnswer) → Follows c (Plain.onCommand a (driveOf c) i) (planReply (planWith a c i .answer)) (planWith a c i .controller)
-  unfolding driveOf inTurn planned Plain.decidedOn
+  unfolding driveOf planned planRefused Context.decidedOn Plain.decidedOn
   command-follows Command.Refused = record { reply = refl; state = refl; choices = refl }
   command-follows (Command.Given cmd) = go (i .«estimator_failed») refl
     where
@@ -111,47 +154,57 @@ module _ (c : BodyController) (i : PlanInput) where
       go true e = rw e (record { reply = refl; state = refl; choices = refl })
       go false e = rw e (record { reply = refl; state = refl; choices = refl })
 
+  abbrev OnPlan : Plain.DriveTurn → Type 0
+  OnPlan turn = Follows c (Plain.onPlan turn (driveOf c) i) (planReply (planOf c i .answer)) (planOf c i .controller)
+
   pub plan-follows : (dt : Float) → Follows c (Plain.step dt (driveOf c) (plan i)) (planReply (planOf c i .answer)) (planOf c i .controller)
-  unfolding planOf driveOf Plain.step
-  plan-follows dt = go (c .phase .turn) refl
+  unfolding planOf planRefused Plain.step
+  plan-follows dt = go (next c)
     where
-      go : (t : Turn) → c .phase .turn ≡ t → Follows c (Plain.step dt (driveOf c) (plan i)) (planReply (planOf c i .answer)) (planOf c i .controller)
-      go Turns.Sight e = rw e (record { reply = refl; state = refl; choices = refl })
-      go Turns.Plan e = rw e (rw e at (command-follows (commandFrom (i .mode) (i .words))))
-      go (Turns.Steer p) e = rw e (record { reply = refl; state = refl; choices = refl })
-      go (Turns.Finish s) e = rw e (record { reply = refl; state = refl; choices = refl })
+      go : Next c → OnPlan (driveOf c .turn)
+      go (at-sight t) = subst OnPlan (sym (t .drive)) (rw (t .plan) (record { reply = refl; state = refl; choices = refl }))
+      go (at-plan t) = subst OnPlan (sym (t .drive)) (rw (t .plan) (command-follows (commandFrom (i .mode) (i .words))))
+      go (at-steer t) = subst OnPlan (sym (t .drive)) (rw (t .plan) (record { reply = refl; state = refl; choices = refl }))
+      go (at-finish t) = subst OnPlan (sym (t .drive)) (rw (t .plan) (record { reply = refl; state = refl; choices = refl }))
 
 -- ---- reset
 
 pub reset-follows : (c : BodyController) (dt : Float) → Follows c (Plain.step dt (driveOf c) reset) accepted (resetOf c)
-unfolding driveOf resetOf contextReset newVision emptyMemory Plain.step Plain.onReset
+unfolding driveOf resetOf Context.newContext newVision emptyMemory Plain.step Plain.onReset
 reset-follows c dt = record { reply = refl; state = refl; choices = refl }
 
 -- ---- steer
 
+-- a controller with this context, at finish's turn
+abbrev atFinish : BodyController → ControlContext → Steered → BodyController
+atFinish c context s = record {
+  choices = c .choices;
+  context = context;
+  turn = 3;
+  planned = c .planned;
+  steered = s;
+  outputs = c .outputs;
+  ticks = c .ticks;
+  counts = c .counts;
+}
+
 -- recovery, with finish next
-recovered-follows : (c : BodyController) (w : Vector4f) (s : Steered)
-    → driveOf (inTurn (Steer.recovered c w) (Turns.Finish s)) ≡ Plain.recovered (Steer.recoveryOf c w) (driveOf (inTurn c (Turns.Finish s)))
-unfolding driveOf inTurn contextReset newVision emptyMemory Steer.recovered
-recovered-follows c w s = go (Steer.recoveryOf c w .reset) refl
+recovered-follows : (c : BodyController) (d : ControlContext) (w : Vector4f) (s : Steered)
+    → driveOf (atFinish c (Tracking.recovered d w) s) ≡ Plain.recovered (Tracking.recoveryOf d w) (driveOf (atFinish c d s))
+unfolding driveOf Context.contextReset newVision emptyMemory Tracking.recovered
+recovered-follows c d w s = go (Tracking.recoveryOf d w .reset) refl
   where
-    go : (b : Bool) → Steer.recoveryOf c w .reset ≡ b → driveOf (inTurn (Steer.recovered c w) (Turns.Finish s)) ≡ Plain.recovered (Steer.recoveryOf c w) (driveOf (inTurn c (Turns.Finish s)))
+    go : (b : Bool) → Tracking.recoveryOf d w .reset ≡ b → driveOf (atFinish c (Tracking.recovered d w) s) ≡ Plain.recovered (Tracking.recoveryOf d w) (driveOf (atFinish c d s))
     go true e = rw e
     go false e = rw e
 
-recovered-choices : (c : BodyController) (w : Vector4f) → Steer.recovered c w .choices ≡ c .choices
-unfolding contextReset Steer.recovered
-recovered-choices c w = go (Steer.recoveryOf c w .reset)
-  where
-    go : (b : Bool) → cond b (contextReset c) (Steer.inRecovery c (Steer.recoveryOf c w)) .choices ≡ c .choices
-    go true = refl
-    go false = refl
+module _ (c : BodyController) (i : SteerInput) where
+  abbrev tracked : PlanAnswer → Tracked
+  tracked a = Tracking.followedBy a (c .context) (c .planned .cmd) (i .fresh) (i .next) (secondsOf (c .choices .tick .k))
 
-module _ (c : BodyController) (p : Planned) (i : SteerInput) where
   -- tracking, with finish next
-  tracked-follows : (a : PlanAnswer) (s : Steered)
-      → driveOf (inTurn (Steer.followedBy a c (p .cmd) (i .fresh) (i .next) .controller) (Turns.Finish s)) ≡ Plain.followed (driveOf c) a (p .cmd) i
-  unfolding driveOf inTurn afterTracking Steer.tracked
+  tracked-follows : (a : PlanAnswer) (s : Steered) → driveOf (atFinish c (tracked a .context) s) ≡ Plain.followed (driveOf c) a (c .planned .cmd) i
+  unfolding driveOf afterTracking Tracking.tracked
   tracked-follows Answers.Hold s = refl
   tracked-follows Answers.NoVision s = refl
   tracked-follows Answers.Keep s = refl
@@ -161,49 +214,52 @@ module _ (c : BodyController) (p : Planned) (i : SteerInput) where
   abbrev recoveredIn : Plain.DriveState → Plain.DriveState
   recoveredIn s = Plain.recovered (recovery (s .recovering) (Plain.judgedState (s .held)) (s .estimate) (i .«wheel_vel_meas»)) s
 
-  abbrev setpoints : Setpoints
-  setpoints = Steer.followedBy (p .answer) c (p .cmd) (i .fresh) (i .next)
+  both-follow : (s : Steered)
+      → driveOf (atFinish c (Tracking.recovered (tracked (c .planned .answer) .context) (i .«wheel_vel_meas»)) s) ≡ recoveredIn (Plain.followed (driveOf c) (c .planned .answer) (c .planned .cmd) i)
+  unfolding driveOf
+  both-follow s = recovered-follows c (tracked (c .planned .answer) .context) (i .«wheel_vel_meas») s ∙ ap recoveredIn (tracked-follows (c .planned .answer) s)
 
-  both-follow : (s : Steered) → driveOf (inTurn (Steer.recovered (setpoints .controller) (i .«wheel_vel_meas»)) (Turns.Finish s)) ≡ recoveredIn (Plain.followed (driveOf c) (p .answer) (p .cmd) i)
-  unfolding driveOf inTurn
-  both-follow s = recovered-follows (setpoints .controller) (i .«wheel_vel_meas») s ∙ ap recoveredIn (tracked-follows (p .answer) s)
-
-  followed-choices : (a : PlanAnswer) → Steer.followedBy a c (p .cmd) (i .fresh) (i .next) .controller .choices ≡ c .choices
-  unfolding Steer.tracked
-  followed-choices Answers.Hold = refl
-  followed-choices Answers.NoVision = refl
-  followed-choices Answers.Keep = refl
-  followed-choices (Answers.NewPlan seed) = refl
-
-  steered-follows : Follows c (Plain.steeredBy (driveOf c) (p .answer) (p .cmd) i) (steerReply (Steer.steered c p i .answer)) (Steer.steered c p i .controller)
-  unfolding Steer.steered Steer.followed Steer.limited inTurn Plain.steeredBy
-  steered-follows = record { reply = refl; state = both-follow _; choices = recovered-choices (setpoints .controller) (i .«wheel_vel_meas») ∙ followed-choices (p .answer) }
+  steered-follows : Follows c (Plain.steeredBy (driveOf c) (c .planned .answer) (c .planned .cmd) i) (steerReply (Steer.steered c i .answer)) (Steer.steered c i .controller)
+  unfolding Steer.steered Tracking.steered Tracking.followed Plain.steeredBy
+  steered-follows = record { reply = refl; state = both-follow _; choices = refl }
 
   -- at steer's turn
-  planned-follows : (b : Bool) → Steer.failsAt p i ≡ b
-      → Follows c (Plain.onSteer (Plain.toSteer (p .answer) (p .cmd)) (driveOf c) i) (steerReply (Steer.steerWith p c i .answer)) (Steer.steerWith p c i .controller)
-  unfolding driveOf trajectoryDropped Steer.steerWith Steer.plannerFailed Plain.unplanned
+  planned-follows : (b : Bool) → Steer.failsAt c i ≡ b
+      → Follows c (Plain.onSteer (Plain.toSteer (c .planned .answer) (c .planned .cmd)) (driveOf c) i) (steerReply (cond (Steer.failsAt c i) (Steer.plannerFailed c) (Steer.steered c i) .answer)) (cond (Steer.failsAt c i) (Steer.plannerFailed c) (Steer.steered c i) .controller)
+  unfolding driveOf trajectoryDropped Context.plannerFailed Steer.plannerFailed Plain.unplanned
   planned-follows true e = rw e (record { reply = refl; state = refl; choices = refl })
   planned-follows false e = rw e steered-follows
 
-pub steer-follows : (c : BodyController) (i : SteerInput) (dt : Float) → Follows c (Plain.step dt (driveOf c) (steer i)) (steerReply (Steer.steerOf c i .answer)) (Steer.steerOf c i .controller)
-unfolding driveOf Steer.steerOf Plain.step
-steer-follows c i dt = go (c .phase .turn) refl
-  where
-    go : (t : Turn) → c .phase .turn ≡ t → Follows c (Plain.step dt (driveOf c) (steer i)) (steerReply (Steer.steerOf c i .answer)) (Steer.steerOf c i .controller)
-    go Turns.Sight e = rw e (record { reply = refl; state = refl; choices = refl })
-    go Turns.Plan e = rw e (record { reply = refl; state = refl; choices = refl })
-    go (Turns.Steer p) e = rw e (rw e at (planned-follows c p i (Steer.failsAt p i) refl))
-    go (Turns.Finish s) e = rw e (record { reply = refl; state = refl; choices = refl })
+  abbrev OnSteer : Plain.DriveTurn → Type 0
+  OnSteer turn = Follows c (Plain.onSteer turn (driveOf c) i) (steerReply (Steer.steerOf c i .answer)) (Steer.steerOf c i .controller)
+
+  pub steer-follows : (dt : Float) → Follows c (Plain.step dt (driveOf c) (steer i)) (steerReply (Steer.steerOf c i .answer)) (Steer.steerOf c i .controller)
+  unfolding Steer.steerOf Plain.step
+  steer-follows dt = go (next c)
+    where
+      go : Next c → OnSteer (driveOf c .turn)
+      go (at-sight t) = subst OnSteer (sym (t .drive)) (rw (t .steer) (record { reply = refl; state = refl; choices = refl }))
+      go (at-plan t) = subst OnSteer (sym (t .drive)) (rw (t .steer) (record { reply = refl; state = refl; choices = refl }))
+      go (at-steer t) = subst OnSteer (sym (t .drive)) (rw (t .steer) (planned-follows (Steer.failsAt c i) refl))
+      go (at-finish t) = subst OnSteer (sym (t .drive)) (rw (t .steer) (record { reply = refl; state = refl; choices = refl }))
 
 -- ---- finish
 
-pub finish-follows : (c : BodyController) (i : FinishInput) (dt : Float) → Follows c (Plain.step dt (driveOf c) (finish i)) (finishReply (finishOf c i .answer)) (finishOf c i .controller)
-unfolding driveOf finished finishOf Plain.step
-finish-follows c i dt = go (c .phase .turn) refl
-  where
-    go : (t : Turn) → c .phase .turn ≡ t → Follows c (Plain.step dt (driveOf c) (finish i)) (finishReply (finishOf c i .answer)) (finishOf c i .controller)
-    go Turns.Sight e = rw e (record { reply = refl; state = refl; choices = refl })
-    go Turns.Plan e = rw e (record { reply = refl; state = refl; choices = refl })
-    go (Turns.Steer p) e = rw e (record { reply = refl; state = refl; choices = refl })
-    go (Turns.Finish s) e = rw e (record { reply = refl; state = refl; choices = refl })
+module _ (c : BodyController) (i : FinishInput) where
+  -- at finish's turn
+  finished-follows : Follows c (Plain.onFinish Plain.toFinish (driveOf c)) (finishReply (finished c i .answer)) (finished c i .controller)
+  unfolding driveOf
+  finished-follows = record { reply = refl; state = refl; choices = refl }
+
+  abbrev OnFinish : Plain.DriveTurn → Type 0
+  OnFinish turn = Follows c (Plain.onFinish turn (driveOf c)) (finishReply (finishOf c i .answer)) (finishOf c i .controller)
+
+  pub finish-follows : (dt : Float) → Follows c (Plain.step dt (driveOf c) (finish i)) (finishReply (finishOf c i .answer)) (finishOf c i .controller)
+  unfolding finishOf Plain.step
+  finish-follows dt = go (next c)
+    where
+      go : Next c → OnFinish (driveOf c .turn)
+      go (at-sight t) = subst OnFinish (sym (t .drive)) (rw (t .finish) (record { reply = refl; state = refl; choices = refl }))
+      go (at-plan t) = subst OnFinish (sym (t .drive)) (rw (t .finish) (record { reply = refl; state = refl; choices = refl }))
+      go (at-steer t) = subst OnFinish (sym (t .drive)) (rw (t .finish) (record { reply = refl; state = refl; choices = refl }))
+      go (at-finish t) = subst OnFinish (sym (t .drive)) (rw (t .finish) finished-follows)

@@ -26,12 +26,11 @@ use Rattle.body_controller.specs.declared.SteerResult.{SteerResult}
 use Rattle.body_controller.specs.declared.FinishAnswer.{FinishAnswer}
 use Rattle.body_controller.specs.declared.FinishAnswer.the-variants as Finishes
 use Rattle.body_controller.specs.declared.FinishResult.{FinishResult}
-use Rattle.body_controller.specs.declared.Turn.{Turn}
-use Rattle.body_controller.specs.declared.Turn.the-variants as Turns
+use Rattle.control_context.specs.declared.Planned.{Planned}
 use Rattle.tick_parts.specs.Refusal.{refusalNumber}
 use Rattle.tick_parts.specs.Counts.{countList}
-use Rattle.body_controller.specs.Controller.{newOf}
-use Rattle.body_controller.specs.Reset.{resetOf}
+use Rattle.body_controller.specs.Turn.{isSight, isPlan, isSteer}
+use Rattle.body_controller.specs.Controller.{newOf, resetOf}
 use Rattle.body_controller.specs.Sight.{sightOf}
 use Rattle.body_controller.specs.Plan.{planOf}
 use Rattle.body_controller.specs.Steer.{steerOf}
@@ -108,30 +107,27 @@ tookWithin n (e ∷ h) = cond (isTick (e .reply)) (leb 1 n && (took (e .reply) |
 
 -- ---- read off the controller
 
-abbrev pub driveTurn : Turn → DriveTurn
-driveTurn Turns.Sight = toSight
-driveTurn Turns.Plan = toPlan
-driveTurn (Turns.Steer p) = toSteer (p .answer) (p .cmd)
-driveTurn (Turns.Finish s) = toFinish
+abbrev pub driveTurn : ℕ → Planned → DriveTurn
+driveTurn turn p = cond (isSight turn) toSight (cond (isPlan turn) toPlan (cond (isSteer turn) (toSteer (p .answer) (p .cmd)) toFinish))
 
 -- what the plain drive keeps too
 unfoldable pub driveOf : BodyController → DriveState
 driveOf c = record {
-  gate = c .vision .gate;
-  clock = c .vision .«time_since_vision_update_s»;
-  recovering = c .phase .state;
-  held = c .memory .held;
-  previous = c .memory .«prev_cmd»;
-  mode = c .«prev_mode»;
-  estimate = c .«state_estimate»;
-  turn = driveTurn (c .phase .turn);
+  gate = c .context .vision .gate;
+  clock = c .context .vision .«time_since_vision_update_s»;
+  recovering = c .context .divergence .state;
+  held = c .context .memory .held;
+  previous = c .context .memory .«prev_cmd»;
+  mode = c .context .«prev_mode»;
+  estimate = c .context .«state_estimate»;
+  turn = driveTurn (c .turn) (c .planned);
   ticks = c .ticks;
   counts = countList (c .counts);
 }
 
 -- whether the cameras are active
 abbrev pub isActive : BodyController → Bool
-isActive c = active (c .vision .«time_since_vision_update_s»)
+isActive c = active (c .context .vision .«time_since_vision_update_s»)
 
 -- the sum of a list
 unfoldable pub total : List ℕ → ℕ
@@ -169,7 +165,7 @@ pub record Holds (k : ℕ) (h : List Entry) (c : BodyController) : Type 0 where
       → 1 ≤ D
       → D ≤ 64
       → 2048 * D ≤ since h * k
-      → c .vision .gate ≡ Tracking t
+      → c .context .vision .gate ≡ Tracking t
       → i .«vision_update» ≡ true
       → T (le (distance (i .«vision_pose_meas») (i .«predicted_state»)) (ofInt binary32 (pos D)))
       → Meets c (sight i) reply d
@@ -188,7 +184,7 @@ EveryListRuns = (k : ℕ) (calls : List Call) → 1 ≤ k → k ≤ 64 → (h : 
 -- no count ever wraps: after any list each is at most the tick limit, far below 2^32, and a seeding holds fewer than 20 sightings
 abbrev pub NothingWraps : Type 0
 NothingWraps = (k : ℕ) (h : List Entry) (c : BodyController) → Made k h c
-    → (c .ticks ≤ 16777216) × AllWithin 16777216 (countList (c .counts)) × (gatheredIn (c .vision .gate) ≤ 19)
+    → (c .ticks ≤ 16777216) × AllWithin 16777216 (countList (c .counts)) × (gatheredIn (c .context .vision .gate) ≤ 19)
 
 -- for those who read the shelf: after any list of calls, the cameras are active only if a sighting was taken in the last tick or in one of
 -- the 2048/k ticks before it

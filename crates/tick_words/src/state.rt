@@ -4,14 +4,14 @@ use crate::put::mark;
 use crate::put::put_vec3;
 use crate::put::put_vec6;
 use body_controller::BodyController;
-use body_controller::Kept;
+use control_context::ControlContext;
 use ieee754::bits::to_bits;
 use maneuvers::GlobalPosition;
 use maneuvers::HeadingLine;
 use maneuvers::HeldSample;
 use maneuvers::ManeuverCommand;
 use maneuvers::PrevCommand;
-use pid::PidController3;
+use tracking::PidMemory;
 use vision_gate::Seeding;
 use vision_gate::VisionGateState;
 
@@ -93,37 +93,38 @@ fn put_previous(words: &mut [u32; 96], prev: PrevCommand) {
     }
 }
 
-fn put_pid(words: &mut [u32; 96], pid: PidController3) {
-    let x = pid.x;
-    let y = pid.y;
-    let z = pid.z;
-    words[89] = to_bits(x.prev_error);
-    words[90] = to_bits(y.prev_error);
-    words[91] = to_bits(z.prev_error);
-    words[92] = to_bits(x.integrated_error);
-    words[93] = to_bits(y.integrated_error);
-    words[94] = to_bits(z.integrated_error);
+fn put_pid(words: &mut [u32; 96], pid: PidMemory) {
+    let e = pid.prev_error;
+    let i = pid.integrated_error;
+    words[89] = to_bits(e.x);
+    words[90] = to_bits(e.y);
+    words[91] = to_bits(e.z);
+    words[92] = to_bits(i.x);
+    words[93] = to_bits(i.y);
+    words[94] = to_bits(i.z);
 }
 
-fn put_kept(words: &mut [u32; 96], k: Kept) {
+fn put_context(words: &mut [u32; 96], k: ControlContext) {
     let vision = k.vision;
     let gate = vision.gate;
     let memory = k.memory;
     let held = memory.held;
     let prev_cmd = memory.prev_cmd;
-    put_outputs(words, k.outputs);
+    let divergence = k.divergence;
+    let state = divergence.state;
+    words[47] = mark(k.wheels_disabled);
     put_gate(words, gate);
     words[55] = to_bits(vision.time_since_vision_update_s);
+    words[56] = mark(vision.vision_active());
+    words[57] = mark(state.recovering());
     put_held(words, held);
     put_previous(words, prev_cmd);
     words[82] = k.prev_mode;
     put_vec6(words, 83, k.state_estimate);
-    put_pid(words, k.pose_pid_controller);
+    put_pid(words, k.pose_pid);
 }
 
 pub(crate) fn put_state(words: &mut [u32; 96], c: BodyController) {
-    words[47] = mark(c.wheels_disabled());
-    words[56] = mark(c.vision_active());
-    words[57] = mark(c.tracking_divergence_recovery_active());
-    put_kept(words, c.kept());
+    put_outputs(words, c.outputs());
+    put_context(words, c.context());
 }

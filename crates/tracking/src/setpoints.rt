@@ -132,8 +132,7 @@ pub fn calc_tracking_setpoints(
     let traj_vel = traj_state.twist;
     let traj_pos = wrapped(traj_state.pose, pose_estimate);
     let twist_error = traj_vel.sub(state_estimate.twist);
-    let answer = pose_pid(pid)
-        .calculate_with_derivative(traj_pos, pose_estimate, twist_error, dt);
+    let answer = pose_pid(pid).calculate_with_derivative(traj_pos, pose_estimate, twist_error, dt);
     let pid = memory_of(answer.controller);
     let setpoints = ManeuverSetpoints {
         body_twist: twist_setpoint(traj_vel),

@@ -9,6 +9,7 @@ use Rattle.body_controller.proofs.BodyController.finish.Tie as tie
 returns : tie.Need-returns
 unfolding finishOf
 returns c = rw (lt-ltb _ _ (c .if1 .taken)) (refl, refl)
+
 finish-by-requires : tie.Need-finish-by-requires
 finish-by-requires c κs = search needs
 

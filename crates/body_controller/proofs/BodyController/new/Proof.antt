@@ -17,6 +17,7 @@ start-requires c κs = search needs
 returns : tie.Need-returns
 unfolding newOf
 returns c = rw (c .start .ensures, ← c .before .before .before .before .new .ensures .0, c .before .before .answer .given .1) (refl, rw (c .before .before .answer .given .1) at (c .before .before .before .before .new .ensures .1))
+
 enum-told : tie.Need-enum-told
 enum-told c = search needs
 

@@ -18,11 +18,13 @@ refuse-plan-requires c κs = search needs
 
 returns : tie.Need-returns
 returns c = at-plan _ _ _ (eq-eqb _ _ (c .before .before .before .before .before .before .if1 .taken)) (rw (c .refuse-plan .ensures, ← c .before .before .before .before .before .from-words .ensures .0, c .before .before .before .given .given .1, c .before .if2 .taken))
+
 decide-requires : tie.Need-decide-requires
 decide-requires c κs = search needs
 
 returns-2 : tie.Need-returns-2
 returns-2 c = at-plan _ _ _ (eq-eqb _ _ (c .before .before .before .before .before .before .if1 .taken)) (rw (c .decide .ensures, ← c .before .before .before .before .before .from-words .ensures .0, c .before .before .before .given .given .1, c .before .if2 .left))
+
 enum-told : tie.Need-enum-told
 enum-told c = search needs
 
@@ -31,6 +33,7 @@ refuse-plan-requires-2 c κs = search needs
 
 returns-3 : tie.Need-returns-3
 returns-3 c = at-plan _ _ _ (eq-eqb _ _ (c .before .before .before .before .if1 .taken)) (rw (c .refuse-plan2 .ensures, ← c .before .before .before .from-words .ensures .0, c .before .enum-told .given .1))
+
 refuse-plan-requires-3 : tie.Need-refuse-plan-requires-3
 refuse-plan-requires-3 c κs = search needs
 

@@ -13,6 +13,7 @@ zero-requires c κs = search needs
 returns : tie.Need-returns
 unfolding followed
 returns c = rw (c .zero .ensures, c .before .enum-told .given .1)
+
 enum-told-2 : tie.Need-enum-told-2
 enum-told-2 c = search needs
 
@@ -22,6 +23,7 @@ zero-requires-2 c κs = search needs
 returns-2 : tie.Need-returns-2
 unfolding followed
 returns-2 c = rw (c .zero2 .ensures, c .before .enum-told2 .given .1)
+
 enum-told-3 : tie.Need-enum-told-3
 enum-told-3 c = search needs
 
@@ -34,6 +36,7 @@ track-requires c κs = search needs
 returns-3 : tie.Need-returns-3
 unfolding followed
 returns-3 c = rw (c .track .ensures, c .before .held-or .ensures, c .before .before .before .enum-told3 .given .1)
+
 enum-known-answer : tie.Need-enum-known-answer
 enum-known-answer c = search needs
 

@@ -17,6 +17,7 @@ reset-requires c κs = search needs
 returns : tie.Need-returns
 unfolding recovered
 returns c = rw (c .reset .ensures, ← c .before .before .before .held-state .ensures, ← c .before .before .update-tracking-divergence-recovery .ensures, c .before .if1 .taken)
+
 returns-2 : tie.Need-returns-2
 unfolding recovered
 returns-2 c = rw (← c .before .before .held-state .ensures, ← c .before .update-tracking-divergence-recovery .ensures, c .if1 .left)

@@ -19,6 +19,7 @@ empty-requires-2 c κs = search needs
 returns : tie.Need-returns
 unfolding seen
 returns c = rw (← c .before .before .before .before .before .update .ensures, ← c .before .before .before .overwrites .ensures, ← c .before .empty .ensures, ← c .empty2 .ensures, c .before .before .if1 .taken)
+
 returns-2 : tie.Need-returns-2
 unfolding seen
 returns-2 c = rw (← c .before .before .before .update .ensures, ← c .before .overwrites .ensures, c .if1 .left)

@@ -11,6 +11,7 @@ enum-known-held c = search needs
 
 returns : tie.Need-returns
 returns c = rw (c .enum-told .given .1)
+
 returns-2 : tie.Need-returns-2
 returns-2 c = rw (c .before .before .held .given .1)
 
