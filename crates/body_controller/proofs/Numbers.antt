@@ -10,8 +10,8 @@ use Rattle.maneuvers.specs.declared.CommandAnswer.the-variants as Command
 use Rattle.maneuvers.specs.declared.CommandWords.{CommandWords}
 use Rattle.maneuvers.specs.Command.{isMode, commandFrom, refusalNumber}
 use Rattle.body_controller.specs.declared.BodyController.{BodyController}
-use Rattle.body_controller.specs.declared.PlanInput.{PlanInput}
-use Rattle.body_controller.specs.declared.SteerInput.{SteerInput}
+use Rattle.call_inputs.specs.declared.PlanInput.{PlanInput}
+use Rattle.call_inputs.specs.declared.SteerInput.{SteerInput}
 use Rattle.body_controller.specs.declared.Planned.{Planned}
 use Rattle.body_controller.specs.Plan.{planned, planWith, planNumber}
 use Rattle.body_controller.specs.Steer.{limited, steered, failsAt, steerWith, steerNumber}

@@ -5,7 +5,7 @@ ghost use Rattle.maneuvers.specs.Command.{commandFrom};
 use crate::BodyController;
 use crate::Phase;
 use crate::PlanCallAnswer;
-use crate::PlanInput;
+use call_inputs::PlanInput;
 use crate::PlanResult;
 use crate::Planned;
 use crate::Turn;

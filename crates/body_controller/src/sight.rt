@@ -5,7 +5,7 @@ use crate::BodyController;
 use crate::Measurement;
 use crate::Phase;
 use crate::SightAnswer;
-use crate::SightInput;
+use call_inputs::SightInput;
 use crate::SightResult;
 use crate::Sighted;
 use crate::Turn;

@@ -7,7 +7,7 @@ use crate::Phase;
 use crate::Planned;
 use crate::Setpoints;
 use crate::SteerAnswer;
-use crate::SteerInput;
+use call_inputs::SteerInput;
 use crate::SteerResult;
 use crate::Steered;
 use crate::Turn;

@@ -6,10 +6,10 @@ use lib.Dec.{eqb, ltb}
 use lib.Ieee.{Float}
 use Rattle.linear.specs.Vector.{zeroFloat}
 use Rattle.maneuvers.specs.declared.CommandWords.{CommandWords}
-use Rattle.body_controller.specs.declared.FinishInput.{FinishInput}
-use Rattle.body_controller.specs.declared.PlanInput.{PlanInput}
-use Rattle.body_controller.specs.declared.SightInput.{SightInput}
-use Rattle.body_controller.specs.declared.SteerInput.{SteerInput}
+use Rattle.call_inputs.specs.declared.FinishInput.{FinishInput}
+use Rattle.call_inputs.specs.declared.PlanInput.{PlanInput}
+use Rattle.call_inputs.specs.declared.SightInput.{SightInput}
+use Rattle.call_inputs.specs.declared.SteerInput.{SteerInput}
 use Rattle.block_words.specs.Word.{wordAt}
 use Rattle.block_floats.specs.Floats.{floatAt, vector3At, vector4At}
 use Rattle.tick_block.specs.Layout as at

@@ -33,10 +33,10 @@ use block_floats::float_at;
 use block_floats::vec3_at;
 use block_floats::vec4_at;
 use block_words::word_at;
-use body_controller::FinishInput;
-use body_controller::PlanInput;
-use body_controller::SightInput;
-use body_controller::SteerInput;
+use call_inputs::FinishInput;
+use call_inputs::PlanInput;
+use call_inputs::SightInput;
+use call_inputs::SteerInput;
 use maneuvers::CommandWords;
 
 // The words of modes 0 and 1, which use none.

@@ -14,10 +14,10 @@ use crate::inputs::steer_input;
 use crate::layout::NUMBER;
 use crate::tests::block_tested;
 use block_words::word_at;
-use body_controller::FinishInput;
-use body_controller::PlanInput;
-use body_controller::SightInput;
-use body_controller::SteerInput;
+use call_inputs::FinishInput;
+use call_inputs::PlanInput;
+use call_inputs::SightInput;
+use call_inputs::SteerInput;
 use tick_length::TickLength;
 
 pub struct TickBlock {
