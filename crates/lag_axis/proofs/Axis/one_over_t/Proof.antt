@@ -1,8 +1,8 @@
--- `first_order_lag::axis::Axis::one_over_t` meets its contract. Assumes nothing.
+-- `lag_axis::Axis::one_over_t` meets its contract. Assumes nothing.
 use borrow.Author.Needs.{needs}
-use Rattle.first_order_lag.specs.Axis.{oneOverT}
-use Rattle.first_order_lag.proofs.axis.Axis.one_over_t.Statement.{statement}
-use Rattle.first_order_lag.proofs.axis.Axis.one_over_t.Tie as tie
+use Rattle.lag_axis.specs.Axis.{oneOverT}
+use Rattle.lag_axis.proofs.Axis.one_over_t.Statement.{statement}
+use Rattle.lag_axis.proofs.Axis.one_over_t.Tie as tie
 
 abs-requires : tie.Need-abs-requires
 abs-requires c κs = search needs

@@ -1,11 +1,11 @@
--- `first_order_lag::axis::iterate` meets its contract. The invariant: cmd is what i turns make of `desired`. The measure is n - i. Assumes nothing.
+-- `lag_axis::iterate` meets its contract. The invariant: cmd is what i turns make of `desired`. The measure is n - i. Assumes nothing.
 use mathlib.Core.Path.{_≡_, refl}
 use Prim.Native.Nat.{_-_, _≤_}
 use native.Mathlib.Numerals.{add-one}
 use native.Mathlib.Omega.{arith}
-use Rattle.first_order_lag.specs.Axis.{iterated, lagTurn}
-use Rattle.first_order_lag.proofs.axis.iterate.Statement.{statement}
-use Rattle.first_order_lag.proofs.axis.iterate.Tie as tie
+use Rattle.lag_axis.specs.Axis.{iterated, lagTurn}
+use Rattle.lag_axis.proofs.iterate.Statement.{statement}
+use Rattle.lag_axis.proofs.iterate.Tie as tie
 
 abbrev Inv-loop : tie.InvT-loop
 Inv-loop n one-minus-a target desired cmd₀ i₀ cmd i = (i ≤ n) × (cmd ≡ iterated i (lagTurn one-minus-a target) desired)

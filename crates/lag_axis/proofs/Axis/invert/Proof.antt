@@ -1,8 +1,8 @@
--- `first_order_lag::axis::Axis::invert` meets its contract. Assumes nothing.
+-- `lag_axis::Axis::invert` meets its contract. Assumes nothing.
 use borrow.Author.Needs.{needs}
-use Rattle.first_order_lag.specs.Axis.{axisInvert}
-use Rattle.first_order_lag.proofs.axis.Axis.invert.Statement.{statement}
-use Rattle.first_order_lag.proofs.axis.Axis.invert.Tie as tie
+use Rattle.lag_axis.specs.Axis.{axisInvert}
+use Rattle.lag_axis.proofs.Axis.invert.Statement.{statement}
+use Rattle.lag_axis.proofs.Axis.invert.Tie as tie
 
 one-over-t-requires : tie.Need-one-over-t-requires
 one-over-t-requires c κs = search needs

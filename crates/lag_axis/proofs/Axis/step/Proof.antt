@@ -1,8 +1,8 @@
--- `first_order_lag::axis::Axis::step` meets its contract. Assumes nothing.
+-- `lag_axis::Axis::step` meets its contract. Assumes nothing.
 use borrow.Author.Needs.{needs}
-use Rattle.first_order_lag.specs.Axis.{axisStep}
-use Rattle.first_order_lag.proofs.axis.Axis.step.Statement.{statement}
-use Rattle.first_order_lag.proofs.axis.Axis.step.Tie as tie
+use Rattle.lag_axis.specs.Axis.{axisStep}
+use Rattle.lag_axis.proofs.Axis.step.Statement.{statement}
+use Rattle.lag_axis.proofs.Axis.step.Tie as tie
 
 one-over-t-requires : tie.Need-one-over-t-requires
 one-over-t-requires c κs = search needs

@@ -3,7 +3,7 @@
 use Prim.Native.Nat.{ℕ, zero, suc}
 use lib.Ieee.{Float, binary32, ofBits, add, sub, mul, div}
 use Rattle.ieee754.specs.Magnitude.{magnitude}
-use Rattle.first_order_lag.specs.declared.axis.Axis.{Axis}
+use Rattle.lag_axis.specs.declared.Axis.{Axis}
 
 -- 1.0
 abbrev pub one : Float
