@@ -40,7 +40,8 @@ then {s} {s₁} {s₂} {xs} {ys} {at} {r₁} {r₂} p q =
     }
 
 -- at place 0: the text, and what was behind it
-pub whole : {s s₁ t : List ℕ} {r : ℕ} → Puts s 0 t s₁ r → length t ≤ length s → (r ≡ length t) × (s₁ ≡ t ++ drop (length t) s)
+pub whole : {s s₁ t : List ℕ} {r : ℕ} → Puts s 0 t s₁ r → length t ≤ length s₁ → (r ≡ length t) × (s₁ ≡ t ++ drop (length t) s)
 whole {s} {s₁} {t} {r} p h =
-    let h′ : 0 + length t ≤ length s = omega (arith, h) in
-    (omega (arith, p .behind, h), p .stored ∙ sets-eq t s 0 h′ ∙ ap (λ (k : ℕ). t ++ drop k s) (zero-add (length t)))
+    let same : length s₁ ≡ length s = ap length (p .stored) ∙ length-sets s 0 t in
+    let h′ : 0 + length t ≤ length s = omega (arith, h, same) in
+    (omega (arith, p .behind, h, same), p .stored ∙ sets-eq t s 0 h′ ∙ ap (λ (k : ℕ). t ++ drop k s) (zero-add (length t)))
