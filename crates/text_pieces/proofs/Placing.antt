@@ -8,8 +8,8 @@ use native.Mathlib.Nat.{add-suc, suc-add, add-zero, zero-add, le-refl, le-of-lt,
 use native.Mathlib.Omega.{arith}
 use lib.Dec.{T, leb, leb→le, nleb→lt}
 use lib.ListN.{length, drop, set, length-append, length-set}
-use lib.Seq.{sets, length-sets, sets-eq, set-out}
-use Rattle.text_pieces.specs.Puts.{Puts}
+use lib.Seq.{sets, length-sets, sets-eq, set-out, length-take-le}
+use Rattle.text_pieces.specs.Puts.{Puts, Within}
 
 -- stores from a place on, and more from behind them on, are one run of stores
 sets-append : (xs ys s : List ℕ) (at : ℕ) → sets (sets s at xs) (at + length xs) ys ≡ sets s at (xs ++ ys)
@@ -45,3 +45,6 @@ whole {s} {s₁} {t} {r} p h =
     let same : length s₁ ≡ length s = ap length (p .stored) ∙ length-sets s 0 t in
     let h′ : 0 + length t ≤ length s = omega (arith, h, same) in
     (omega (arith, p .behind, h, same), p .stored ∙ sets-eq t s 0 h′ ∙ ap (λ (k : ℕ). t ++ drop k s) (zero-add (length t)))
+
+pub within : (n : ℕ) (xs : List ℕ) → n ≤ length xs → Within n xs
+within n xs h = (h, sym (length-take-le n xs h))

@@ -1,17 +1,16 @@
 // The wheel speeds of a tick's line: each a space and its bits as eight hexadecimal digits.
 ghost use mathlib.Core.List.{[], _∷_};
 ghost use Prim.Native.Nat.{_%_};
-ghost use Rattle.io.specs.Digits.{digits, glyph};
 ghost use Rattle.text_pieces.specs.Pieces.{field};
 ghost use Rattle.text_pieces.specs.Puts.{Puts};
-ghost use Rattle.wheels_text.specs.Wheels.{hex, wheelsText};
+ghost use Rattle.wheels_text.specs.Wheels.{hexDigit, hexDigits, hex, wheelsText};
 use ieee754::bits::to_bits;
 use linear::Vector4f;
 use text_pieces::put_byte;
 
 // A word's last hexadecimal digit.
 fn put_digit(buf: &mut [u8; 128], at: usize, w: u32) -> usize
-    ensures { λ r. ⌜ Puts (now (buf .entry)) at (glyph (w % 16) ∷ []) (now (buf .exit)) r ⌝ }
+    ensures { λ r. ⌜ Puts (now (buf .entry)) at (hexDigit (w % 16) ∷ []) (now (buf .exit)) r ⌝ }
 {
     let d = w % 16;
     if d < 10 {
@@ -23,7 +22,7 @@ fn put_digit(buf: &mut [u8; 128], at: usize, w: u32) -> usize
 
 // A word's last four hexadecimal digits.
 fn put_half(buf: &mut [u8; 128], at: usize, w: u32) -> usize
-    ensures { λ r. ⌜ Puts (now (buf .entry)) at (digits 16 4 w) (now (buf .exit)) r ⌝ }
+    ensures { λ r. ⌜ Puts (now (buf .entry)) at (hexDigits 4 w) (now (buf .exit)) r ⌝ }
 {
     let w1 = w / 16;
     let w2 = w1 / 16;
@@ -37,7 +36,7 @@ fn put_half(buf: &mut [u8; 128], at: usize, w: u32) -> usize
 // A word's eight hexadecimal digits. (`io::hex` fills an array of its own, which would have to be
 // copied.)
 fn put_hex(buf: &mut [u8; 128], at: usize, w: u32) -> usize
-    ensures { λ r. ⌜ Puts (now (buf .entry)) at (digits 16 8 w) (now (buf .exit)) r ⌝ }
+    ensures { λ r. ⌜ Puts (now (buf .entry)) at (hexDigits 8 w) (now (buf .exit)) r ⌝ }
 {
     let at = put_half(buf, at, w / 0x1_0000);
     put_half(buf, at, w)

@@ -1,6 +1,5 @@
 -- `line_text::write_line` meets its contract: the matched variant's text, put at place 0. Assumes nothing.
-use Rattle.io.proofs.Counting.{counts}
-use Rattle.text_pieces.proofs.Placing.{whole}
+use Rattle.text_pieces.proofs.Placing.{whole, within}
 use Rattle.line_text.proofs.Bound.{tick-fits, refused-fits}
 use Rattle.line_text.specs.Text.{lineText}
 use native.Mathlib.Omega.{arith}
@@ -25,14 +24,14 @@ unfolding lineText
 returns c =
     let fits = tick-fits (c .before .before .before .line .given .0 .0) in
     let w = whole (c .write-tick .ensures .0) (omega (arith, fits, c .write-tick .ensures .1)) in
-    rw (c .before .before .before .line .given .1) (w .0, (w .1, (omega (arith, w .0, fits), counts _ _ (omega (arith, w .0, fits, c .write-tick .ensures .1)))))
+    rw (c .before .before .before .line .given .1) (w .0, (w .1, (omega (arith, w .0, fits), within _ _ (omega (arith, w .0, fits, c .write-tick .ensures .1)))))
 
 returns-2 : tie.Need-returns-2
 unfolding lineText
 returns-2 c =
     let fits = refused-fits (c .before .before .before .line2 .given .0 .0) in
     let w = whole (c .write-refused .ensures .0) (omega (arith, fits, c .write-refused .ensures .1)) in
-    rw (c .before .before .before .line2 .given .1) (w .0, (w .1, (omega (arith, w .0, fits), counts _ _ (omega (arith, w .0, fits, c .write-refused .ensures .1)))))
+    rw (c .before .before .before .line2 .given .1) (w .0, (w .1, (omega (arith, w .0, fits), within _ _ (omega (arith, w .0, fits, c .write-refused .ensures .1)))))
 
 pub write-line-spec : {M : Type 1} → statement M
 write-line-spec =

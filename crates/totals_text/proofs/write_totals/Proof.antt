@@ -1,7 +1,6 @@
 -- `totals_text::write_totals` meets its contract: each number behind the one before, from place 0 on. Assumes nothing.
 use native.Mathlib.Omega.{arith}
-use Rattle.io.proofs.Counting.{counts}
-use Rattle.text_pieces.proofs.Placing.{then, whole}
+use Rattle.text_pieces.proofs.Placing.{then, whole, within}
 use Rattle.totals_text.specs.Totals.{totalsText}
 use Rattle.totals_text.proofs.Bound.{totals-fit}
 use Rattle.totals_text.proofs.Four.{then-four}
@@ -30,7 +29,7 @@ returns c =
     let four = then-four (n .quiet) (n .gathered) (n .complete) (n .reseeded) ticks (c .before .before .before .before .put-four .ensures) in
     let eight = then-four (n .taken) (n .jump) (n .first) (n .refused) four (c .before .before .put-four2 .ensures) in
     let w = whole (then eight (c .put-byte .ensures)) (omega (arith, totals-fit (args .ticks) n)) in
-    (w .0, (w .1, (search needs, counts _ _ (search needs))))
+    (w .0, (w .1, (search needs, within _ _ (search needs))))
 
 pub write-totals-spec : {M : Type 1} → statement M
 write-totals-spec =

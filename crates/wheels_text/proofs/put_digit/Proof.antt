@@ -1,4 +1,4 @@
--- `wheels_text::put_digit` meets its contract: the test on the digit is that of `glyph`. Assumes nothing.
+-- `wheels_text::put_digit` meets its contract: the test on the digit is that of `hexDigit`. Assumes nothing.
 use borrow.Author.Tests.{lt-ltb, le-ltb}
 use borrow.Author.Needs.{needs}
 use Rattle.wheels_text.proofs.put_digit.Statement.{statement}

@@ -3,7 +3,7 @@ use Prim.Native.Nat.{ℕ, _/_}
 use mathlib.Core.Path.{_≡_}
 use mathlib.Core.List.{_++_, append-assoc}
 use native.Mathlib.Omega.{arith}
-use Rattle.io.specs.Digits.{digits}
+use Rattle.wheels_text.specs.Wheels.{hexDigits}
 use Rattle.text_pieces.proofs.Placing.{then}
 use borrow.Author.Needs.{needs}
 use Rattle.wheels_text.proofs.put_hex.Statement.{statement}
@@ -18,7 +18,7 @@ put-half-requires-2 c κs = search needs
 upper : (w : ℕ) → w / 0x1_0000 ≡ w / 16 / 16 / 16 / 16
 upper w = omega arith
 
-halves : (w : ℕ) → digits 16 4 (w / 0x1_0000) ++ digits 16 4 w ≡ digits 16 8 w
+halves : (w : ℕ) → hexDigits 4 (w / 0x1_0000) ++ hexDigits 4 w ≡ hexDigits 8 w
 halves w = rw (upper w) (simp append-assoc)
 
 returns : tie.Need-returns
