@@ -29,7 +29,21 @@ pub fn write_totals(buf: &mut [u8; 128], ticks: u32, counts: Counts) -> usize
     ensures { λ r. ⌜ (r ≤ 128) × Within r (now (buf .exit)) ⌝ }
 {
     let at = put_decimal(buf, 0, ticks);
-    let at = put_four(buf, at, counts.quiet, counts.gathered, counts.complete, counts.reseeded);
-    let at = put_four(buf, at, counts.taken, counts.jump, counts.first, counts.refused);
+    let at = put_four(
+        buf,
+        at,
+        counts.quiet,
+        counts.gathered,
+        counts.complete,
+        counts.reseeded,
+    );
+    let at = put_four(
+        buf,
+        at,
+        counts.taken,
+        counts.jump,
+        counts.first,
+        counts.refused,
+    );
     put_byte(buf, at, b'\n')
 }

@@ -1,8 +1,8 @@
--- `vector_run::report::Tally::count` meets its contract. Assumes nothing.
+-- `tally::Tally::count` meets its contract. Assumes nothing.
 use borrow.Author.Needs.{needs}
-use Rattle.vector_run.specs.Tally.{counted}
-use Rattle.vector_run.proofs.report.Tally.count.Statement.{statement}
-use Rattle.vector_run.proofs.report.Tally.count.Tie as tie
+use Rattle.tally.specs.Tally.{counted}
+use Rattle.tally.proofs.Tally.count.Statement.{statement}
+use Rattle.tally.proofs.Tally.count.Tie as tie
 
 wrapping-add-u64-requires : tie.Need-wrapping-add-u64-requires
 wrapping-add-u64-requires c κs = search needs

@@ -1,7 +1,7 @@
 -- What a list has shown. Assumes nothing.
 use Prim.Native.Nat.{ℕ, _+_, _%_, _^_}
 use mathlib.Core.Bool.{false}
-use Rattle.vector_run.specs.declared.report.Tally.{Tally}
+use Rattle.tally.specs.declared.Tally.{Tally}
 
 -- nothing read yet
 unfoldable pub noneYet : Tally

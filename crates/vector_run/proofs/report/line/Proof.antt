@@ -1,10 +1,10 @@
--- `vector_run::report::Tally::line` meets its contract: each piece behind the one before. Assumes nothing.
+-- `vector_run::report::line` meets its contract: each piece behind the one before. Assumes nothing.
 use mathlib.Core.Bool.{true, false}
 use borrow.Author.Needs.{needs}
 use Rattle.io.proofs.Counting.{counts}
 use Rattle.vector_run.proofs.Line.{line-of}
-use Rattle.vector_run.proofs.report.Tally.line.Statement.{statement}
-use Rattle.vector_run.proofs.report.Tally.line.Tie as tie
+use Rattle.vector_run.proofs.report.line.Statement.{statement}
+use Rattle.vector_run.proofs.report.line.Tie as tie
 
 slice-aggregate-put : tie.Need-slice-aggregate-put
 slice-aggregate-put c = search needs
@@ -43,7 +43,7 @@ returns c =
     let records = words .before .before .before in
     let blank = records .before .before in
     let text =
-    line-of (blank .before .before .before .args .self) true
+    line-of (blank .before .before .before .args .tally) true
     (blank .put .ensures)
     (records .put-decimal .ensures .0)
     (words .put2 .ensures)
@@ -59,7 +59,7 @@ returns-2 c =
     let records = words .before .before .before in
     let blank = records .before .before in
     let text =
-    line-of (blank .before .before .before .args .self) false
+    line-of (blank .before .before .before .args .tally) false
     (blank .put .ensures)
     (records .put-decimal .ensures .0)
     (words .put2 .ensures)
