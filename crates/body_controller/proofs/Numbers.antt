@@ -10,7 +10,7 @@ use Rattle.maneuvers.specs.declared.CommandAnswer.the-variants as Command
 use Rattle.maneuvers.specs.declared.CommandWords.{CommandWords}
 use Rattle.maneuvers.specs.Command.{isMode, commandFrom, refusalNumber}
 use Rattle.body_controller.specs.declared.BodyController.{BodyController}
-use Rattle.body_controller.specs.declared.PlanInput.{PlanInput}
+use Rattle.call_inputs.specs.declared.PlanInput.{PlanInput}
 use Rattle.body_controller.specs.declared.PlanResult.{PlanResult}
 use Rattle.body_controller.specs.Plan.{planned, planRefused, planWith, planOf, planNumber, planRefusal}
 use Rattle.body_controller.specs.Turn.{isPlan}

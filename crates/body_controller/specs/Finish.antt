@@ -4,7 +4,7 @@ use mathlib.Core.Bool.{Bool, cond}
 use Rattle.wheels.specs.declared.FinishOutputs.{FinishOutputs}
 use Rattle.wheels.specs.Outputs.{finishOutputs}
 use Rattle.body_controller.specs.declared.BodyController.{BodyController}
-use Rattle.body_controller.specs.declared.FinishInput.{FinishInput}
+use Rattle.call_inputs.specs.declared.FinishInput.{FinishInput}
 use Rattle.body_controller.specs.declared.Finished.{Finished}
 use Rattle.body_controller.specs.declared.FinishAnswer.{FinishAnswer}
 use Rattle.body_controller.specs.declared.FinishAnswer.the-variants.{Accepted, Refused}

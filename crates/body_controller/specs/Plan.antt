@@ -8,7 +8,7 @@ use Rattle.maneuvers.specs.Command.{isMode, commandFrom}
 use Rattle.control_context.specs.declared.Decided.{Decided}
 use Rattle.control_context.specs.Context.{decidedOn}
 use Rattle.body_controller.specs.declared.BodyController.{BodyController}
-use Rattle.body_controller.specs.declared.PlanInput.{PlanInput}
+use Rattle.call_inputs.specs.declared.PlanInput.{PlanInput}
 use Rattle.body_controller.specs.declared.PlanCallAnswer.{PlanCallAnswer}
 use Rattle.body_controller.specs.declared.PlanCallAnswer.the-variants.{Accepted, Refused}
 use Rattle.body_controller.specs.declared.PlanResult.{PlanResult}

@@ -11,7 +11,7 @@ use Rattle.control_context.specs.Context.{seen}
 use Rattle.body_controller.specs.declared.BodyController.{BodyController}
 use Rattle.tick_parts.specs.declared.Refusal.{Refusal}
 use Rattle.tick_parts.specs.declared.Refusal.the-variants.{OutOfTurn, TickLimit}
-use Rattle.body_controller.specs.declared.SightInput.{SightInput}
+use Rattle.call_inputs.specs.declared.SightInput.{SightInput}
 use Rattle.body_controller.specs.declared.Sighted.{Sighted}
 use Rattle.body_controller.specs.declared.SightAnswer.{SightAnswer}
 use Rattle.body_controller.specs.declared.SightAnswer.the-variants.{Accepted, Refused}

@@ -14,7 +14,7 @@ use Rattle.control_context.specs.Steer as Context'
 use Rattle.body_controller.specs.declared.BodyController.{BodyController}
 use Rattle.tick_parts.specs.declared.Refusal.{Refusal}
 use Rattle.tick_parts.specs.declared.Refusal.the-variants.{OutOfTurn, PlannerFailed}
-use Rattle.body_controller.specs.declared.SteerInput.{SteerInput}
+use Rattle.call_inputs.specs.declared.SteerInput.{SteerInput}
 use Rattle.body_controller.specs.declared.SteerAnswer.{SteerAnswer}
 use Rattle.body_controller.specs.declared.SteerAnswer.the-variants.{Accepted, Refused}
 use Rattle.body_controller.specs.declared.SteerResult.{SteerResult}

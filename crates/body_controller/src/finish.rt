@@ -3,7 +3,7 @@ ghost use mathlib.Core.Path.{_≡_};
 ghost use Rattle.body_controller.specs.Finish.{finishedBy, finishOf, finishNumber, finishRefusal};
 use crate::BodyController;
 use crate::FinishAnswer;
-use crate::FinishInput;
+use call_inputs::FinishInput;
 use crate::FinishResult;
 use crate::Finished;
 use crate::Steered;

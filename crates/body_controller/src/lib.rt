@@ -8,15 +8,10 @@ pub mod steer; // steer.rt: tracking and recovery
 
 use control_context::ControlContext;
 use control_context::Planned;
-use linear::Matrix3;
-use linear::Matrix3x4;
-use linear::Matrix4x3;
 use linear::Vector3f;
 use linear::Vector4f;
 use linear::Vector6f;
-use maneuvers::CommandWords;
 use maneuvers::PlanAnswer;
-use maneuvers::Sample;
 use tick_length::TickLength;
 use tick_parts::Counts;
 use tick_parts::Outputs;
@@ -48,14 +43,6 @@ pub enum NewAnswer {
     Refused(Refusal),
 }
 
-pub struct FinishInput {
-    // Inverse inertia.
-    pub i_inv: Matrix3,
-    pub twist2wheel: Matrix4x3,
-    pub accel2wheel: Matrix4x3,
-    pub friction_force_local: Vector3f,
-}
-
 pub struct Finished {
     pub outputs: Outputs,
     // The two clamp marks.
@@ -74,15 +61,6 @@ pub struct FinishResult {
     pub controller: BodyController,
 }
 
-pub struct PlanInput {
-    // The estimator's new estimate.
-    pub state_estimate: Vector6f,
-    pub halt: bool,
-    pub mode: u32,
-    pub words: CommandWords,
-    pub estimator_failed: bool,
-}
-
 pub enum PlanCallAnswer {
     Accepted(PlanAnswer),
     Refused(Refusal),
@@ -91,17 +69,6 @@ pub enum PlanCallAnswer {
 pub struct PlanResult {
     pub answer: PlanCallAnswer,
     pub controller: BodyController,
-}
-
-pub struct SightInput {
-    pub vision_pose_meas: Vector3f,
-    // Whether there is a sighting.
-    pub vision_update: bool,
-    pub wheel_vel_meas: Vector4f,
-    pub imu_gyro_theta_meas: f32,
-    pub predicted_state: Vector6f,
-    // At the sighted heading.
-    pub wheel2twist: Matrix3x4,
 }
 
 // The estimator's eight numbers.
@@ -128,19 +95,6 @@ pub enum SightAnswer {
 pub struct SightResult {
     pub answer: SightAnswer,
     pub controller: BodyController,
-}
-
-pub struct SteerInput {
-    // What a new plan gives for this tick.
-    pub fresh: Sample,
-    // What the tracked plan gives for the next one.
-    pub next: Sample,
-    pub wheel_vel_meas: Vector4f,
-    // Of the estimate's heading.
-    pub cos: f32,
-    pub sin: f32,
-    pub stop: bool,
-    pub planner_failed: bool,
 }
 
 pub enum SteerAnswer {

@@ -3,7 +3,7 @@ ghost use mathlib.Core.Path.{_≡_};
 ghost use Rattle.body_controller.specs.Plan.{planned, planRefused, planOf, planNumber, planRefusal};
 use crate::BodyController;
 use crate::PlanCallAnswer;
-use crate::PlanInput;
+use call_inputs::PlanInput;
 use crate::PlanResult;
 use crate::controller::PLAN;
 use crate::controller::SIGHT;

@@ -4,7 +4,7 @@ ghost use Rattle.body_controller.specs.Sight.{sightAnswer, sighted, sigh
 use crate::BodyController;
 use crate::Measurement;
 use crate::SightAnswer;
-use crate::SightInput;
+use call_inputs::SightInput;
 use crate::SightResult;
 use crate::Sighted;
 use crate::controller::PLAN;

@@ -4,7 +4,7 @@ ghost use Rattle.body_controller.specs.Steer.{limited, steered, plannerF
 use crate::BodyController;
 use crate::Limited;
 use crate::SteerAnswer;
-use crate::SteerInput;
+use call_inputs::SteerInput;
 use crate::SteerResult;
 use crate::Steered;
 use crate::controller::FINISH;

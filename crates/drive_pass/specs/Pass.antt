@@ -11,14 +11,14 @@ use Rattle.body_controller.specs.declared.BodyController.{BodyController}
 use Rattle.body_controller.specs.declared.NewAnswer.{NewAnswer}
 use Rattle.body_controller.specs.declared.NewAnswer.the-variants as New
 use Rattle.tick_parts.specs.declared.Counts.{Counts}
-use Rattle.body_controller.specs.declared.FinishInput.{FinishInput}
+use Rattle.call_inputs.specs.declared.FinishInput.{FinishInput}
 use Rattle.body_controller.specs.declared.FinishAnswer.{FinishAnswer}
 use Rattle.body_controller.specs.declared.FinishAnswer.the-variants as Finishes
 use Rattle.body_controller.specs.declared.PlanCallAnswer.{PlanCallAnswer}
 use Rattle.body_controller.specs.declared.PlanCallAnswer.the-variants as Plans
 use Rattle.body_controller.specs.declared.SightAnswer.{SightAnswer}
 use Rattle.body_controller.specs.declared.SightAnswer.the-variants as Sights
-use Rattle.body_controller.specs.declared.SteerInput.{SteerInput}
+use Rattle.call_inputs.specs.declared.SteerInput.{SteerInput}
 use Rattle.body_controller.specs.declared.SteerAnswer.{SteerAnswer}
 use Rattle.body_controller.specs.declared.SteerAnswer.the-variants as Steers
 use Rattle.tick_parts.specs.Refusal.{refusalNumber}

@@ -3,7 +3,7 @@ use mathlib.Core.Path.{_≡_, refl}
 use Prim.Native.Nat.{ℕ}
 use Rattle.linear.specs.declared.Vector2f.{Vector2f}
 use Rattle.first_order_lag.specs.declared.FirstOrderLag.{FirstOrderLag}
-use Rattle.first_order_lag.specs.Axis.{iterated, axisInvert}
+use Rattle.lag_axis.specs.Axis.{iterated, axisInvert}
 use Rattle.first_order_lag.specs.FirstOrderLag.{newLag, xAxis, yAxis, resetOf, steppedOf, invertedOf}
 
 -- ---- reset

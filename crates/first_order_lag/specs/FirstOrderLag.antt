@@ -9,11 +9,11 @@ use Rattle.linear.specs.declared.Vector2f.{Vector2f}
 use Rattle.linear.specs.Vector.{zeros2}
 use Rattle.controller_params.specs.Params.{encLagK, encLagTSlope, encLagTHorizon, tMinDefault}
 use Rattle.tick_length.specs.TickLength.{isTickLength, microsOf}
-use Rattle.first_order_lag.specs.declared.axis.Axis.{Axis}
+use Rattle.lag_axis.specs.declared.Axis.{Axis}
 use Rattle.first_order_lag.specs.declared.FirstOrderLag.{FirstOrderLag}
 use Rattle.first_order_lag.specs.declared.FirstOrderLagAnswer.{FirstOrderLagAnswer}
 use Rattle.first_order_lag.specs.declared.FirstOrderLagAnswer.the-variants.{Made, Refused}
-use Rattle.first_order_lag.specs.Axis.{axisStep, axisInvert}
+use Rattle.lag_axis.specs.Axis.{axisStep, axisInvert}
 
 -- ---- a new lag
 

@@ -4,16 +4,14 @@ ghost use mathlib.Core.Path.{_≡_};
 ghost use mathlib.Core.Bool.{true};
 ghost use Rattle.tick_length.specs.TickLength.{isTickLength, refusalOf};
 ghost use Rattle.first_order_lag.specs.FirstOrderLag.{durationToSecs, horizonOver, Castable, nStepsOf, newLag, lagOf, refusalNumber, xAxis, yAxis, resetOf, steppedOf, invertedOf};
-use crate::axis::Axis;
 use controller_params::ENC_LAG_K;
 use controller_params::ENC_LAG_T_HORIZON;
 use controller_params::ENC_LAG_T_SLOPE;
 use controller_params::T_MIN_DEFAULT;
+use lag_axis::Axis;
 use linear::Vector2f;
 use tick_length::TickLength;
 use tick_length::TickLengthAnswer;
-
-mod axis;
 
 pub struct FirstOrderLagParams {
     pub k: Vector2f,

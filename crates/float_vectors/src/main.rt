@@ -6,7 +6,8 @@ mod report; // report.rt: what is printed of a mismatch
 
 use answer::Operation;
 use libc::STDOUT_FILENO;
-use vector_run::report::Tally;
+use tally::Tally;
+use vector_run::report::line;
 
 // Reads one block of a list, and adds its records and mismatches to `tally`.
 fn run_block(fd: i32, op: Operation, tally: Tally) -> Tally {
@@ -38,7 +39,7 @@ fn run_list(fd: i32, op: Operation) -> Tally {
 // Prints a list's line.
 fn print_line(name: &[u8], tally: Tally) {
     let mut text = [0u8; 80];
-    let n = tally.line(&mut text);
+    let n = line(tally, &mut text);
     io::write_all(STDOUT_FILENO, name);
     io::write_all(STDOUT_FILENO, &text[..n]);
 }

@@ -6,7 +6,7 @@ use crate::answer::answer;
 use crate::record::is_mismatch;
 use block_words::word_at;
 use libc::STDOUT_FILENO;
-use vector_run::report::Tally;
+use tally::Tally;
 
 // A name and a word in hex.
 fn print_word(name: &[u8], word: u32) {

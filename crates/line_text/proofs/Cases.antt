@@ -1,11 +1,13 @@
--- Lines worked out: document 01's own two, a NaN's bits, a tick that ended with refusal 11, and a refused block. Assumes nothing.
+-- Lines worked out: document 01's own first, a tick that ended with refusal 11, and a refused block. Assumes nothing.
 use mathlib.Core.Bool.{true, false}
 use mathlib.Core.Path.{_≡_, refl}
 use mathlib.Core.List.{[], _∷_}
 use lib.Ieee.{binary32, ofBits, toBits}
 use Rattle.line_text.specs.declared.Ending.the-variants.{Wheels, Failed}
 use Rattle.line_text.specs.declared.Line.the-variants.{Tick, Refused}
-use Rattle.line_text.specs.Text.{decimalIn, decimal, hex, wheelsText, failedText, endingText, tickText, refusedText, lineText, totalsText}
+use Rattle.text_pieces.specs.Pieces.{decimalIn, decimal}
+use Rattle.wheels_text.specs.Wheels.{hex, wheelsText}
+use Rattle.line_text.specs.Text.{failedText, endingText, tickText, refusedText, lineText}
 
 -- `0 Q - N 00000000 00000000 00000000 00000000`
 first-line : lineText (Tick (record { number = 0; letter = 81; active = false; recovering = false; ending = Wheels (record { x = ofBits binary32 0; y = ofBits binary32 0; z = ofBits binary32 0; w = ofBits binary32 0 }) }))
@@ -16,17 +18,6 @@ first-line : lineText (Tick (record { number = 0; letter = 81; active = false; r
     ∷ 32 ∷ 48 ∷ 48 ∷ 48 ∷ 48 ∷ 48 ∷ 48 ∷ 48 ∷ 48 ∷ 10 ∷ []
 unfolding decimalIn decimal hex wheelsText endingText tickText lineText toBits ofBits
 first-line = refl
-
--- `1 1 0 0 0 0 0 0 0`
-last-line : totalsText 1 (record { quiet = 1; gathered = 0; complete = 0; reseeded = 0; taken = 0; jump = 0; first = 0; refused = 0 })
-    ≡ 49 ∷ 32 ∷ 49 ∷ 32 ∷ 48 ∷ 32 ∷ 48 ∷ 32 ∷ 48 ∷ 32 ∷ 48 ∷ 32 ∷ 48 ∷ 32 ∷ 48 ∷ 32 ∷ 48 ∷ 10 ∷ []
-unfolding decimalIn decimal totalsText
-last-line = refl
-
--- a NaN whose own bits are ffc00001: `7fc00000`
-nan : hex (ofBits binary32 0xffc0_0001) ≡ 55 ∷ 102 ∷ 99 ∷ 48 ∷ 48 ∷ 48 ∷ 48 ∷ 48 ∷ []
-unfolding hex toBits ofBits
-nan = refl
 
 -- `1207 T V B E11`
 failed-line : lineText (Tick (record { number = 1207; letter = 84; active = true; recovering = true; ending = Failed 11 }))

@@ -1,4 +1,3 @@
 -- Laws that belong to no one function. Assumes nothing.
-pub mod Placing
-pub mod Digits
+pub mod Bound
 pub mod Cases

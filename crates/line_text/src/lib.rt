@@ -1,22 +1,18 @@
-// The text of program `drive`: one line for each tick or refused block, and the totals at the end.
-// A line goes into a lent array that can't be too short; what stands behind it there stays.
-mod put; // put.rt: bytes, digits and fields at a place of the array
-
-ghost use Prim.Native.Nat.{_+_, _≤_};
+// The text of program `drive` but its last line: one line for each tick or refused block. A line goes
+// into a lent array that can't be too short; what stands behind it there stays.
+ghost use Prim.Native.Nat.{_≤_};
 ghost use mathlib.Core.Bool.{cond};
 ghost use mathlib.Core.Path.{_≡_};
-ghost use mathlib.Core.List.{_++_};
+ghost use mathlib.Core.List.{[], _∷_, _++_};
 ghost use lib.ListN.{length, drop};
-ghost use Rattle.io.specs.Counts.{Counts as Within};
-ghost use Rattle.line_text.specs.Puts.{Puts};
-ghost use Rattle.line_text.specs.Text.{endingText, failedText, lineText, refusedText, tickText, totalsText, wheelsText};
+ghost use Rattle.text_pieces.specs.Pieces.{field};
+ghost use Rattle.text_pieces.specs.Puts.{Puts, Within};
+ghost use Rattle.line_text.specs.Text.{endingText, failedText, lineText, refusedText, tickText};
 use linear::Vector4f;
-use put::put_byte;
-use put::put_decimal;
-use put::put_field;
-use put::put_number;
-use put::put_wheel;
-use tick_parts::Counts;
+use text_pieces::put_byte;
+use text_pieces::put_decimal;
+use text_pieces::put_number;
+use wheels_text::put_wheels;
 
 // How many bytes hold any line.
 pub const LINE: usize = 128;
@@ -60,28 +56,10 @@ pub fn write_line(buf: &mut [u8; 128], line: Line) -> usize
     }
 }
 
-// Puts the last line at the start of buf: how many ticks, and how often each outcome came.
-pub fn write_totals(buf: &mut [u8; 128], ticks: u32, counts: Counts) -> usize
-    ensures { λ r. ⌜ r ≡ length (totalsText ticks counts) ⌝ }
-    ensures { λ _. ⌜ now (buf .exit) ≡ totalsText ticks counts ++ drop (length (totalsText ticks counts)) (now (buf .entry)) ⌝ }
-    ensures { λ r. ⌜ (r ≤ 128) × Within r (now (buf .exit)) ⌝ }
-{
-    let at = put_decimal(buf, 0, ticks);
-    let at = put_number(buf, at, counts.quiet);
-    let at = put_number(buf, at, counts.gathered);
-    let at = put_number(buf, at, counts.complete);
-    let at = put_number(buf, at, counts.reseeded);
-    let at = put_number(buf, at, counts.taken);
-    let at = put_number(buf, at, counts.jump);
-    let at = put_number(buf, at, counts.first);
-    let at = put_number(buf, at, counts.refused);
-    put_byte(buf, at, b'\n')
-}
-
 // A tick's line, at place 0.
 fn write_tick(buf: &mut [u8; 128], t: TickLine) -> usize
     ensures { λ r. ⌜ Puts (now (buf .entry)) 0 (tickText t) (now (buf .exit)) r ⌝ }
-    ensures { λ r. ⌜ (r ≤ 128) × (r ≤ length (now (buf .exit))) ⌝ }
+    ensures { λ _. ⌜ length (now (buf .exit)) ≡ 128 ⌝ }
 {
     let at = put_decimal(buf, 0, t.number);
     let at = put_field(buf, at, t.letter);
@@ -95,7 +73,7 @@ fn write_tick(buf: &mut [u8; 128], t: TickLine) -> usize
 // A refused block's line, at place 0.
 fn write_refused(buf: &mut [u8; 128], f: RefusedLine) -> usize
     ensures { λ r. ⌜ Puts (now (buf .entry)) 0 (refusedText f) (now (buf .exit)) r ⌝ }
-    ensures { λ r. ⌜ (r ≤ 128) × (r ≤ length (now (buf .exit))) ⌝ }
+    ensures { λ _. ⌜ length (now (buf .exit)) ≡ 128 ⌝ }
 {
     let at = put_decimal(buf, 0, f.number);
     let at = put_field(buf, at, b'!');
@@ -105,9 +83,7 @@ fn write_refused(buf: &mut [u8; 128], f: RefusedLine) -> usize
 
 // What ends a tick's line.
 fn put_ending(buf: &mut [u8; 128], at: usize, ending: Ending) -> usize
-    requires { ⌜ at ≤ 64 ⌝ }
     ensures { λ r. ⌜ Puts (now (buf .entry)) at (endingText ending) (now (buf .exit)) r ⌝ }
-    ensures { λ r. ⌜ r ≤ at + 36 ⌝ }
 {
     match ending {
         Ending::Wheels(v) => put_wheels(buf, at, v),
@@ -115,26 +91,20 @@ fn put_ending(buf: &mut [u8; 128], at: usize, ending: Ending) -> usize
     }
 }
 
-// Four wheel speeds.
-fn put_wheels(buf: &mut [u8; 128], at: usize, v: Vector4f) -> usize
-    requires { ⌜ at ≤ 64 ⌝ }
-    ensures { λ r. ⌜ Puts (now (buf .entry)) at (wheelsText v) (now (buf .exit)) r ⌝ }
-    ensures { λ r. ⌜ r ≤ at + 36 ⌝ }
-{
-    let at = put_wheel(buf, at, v.x);
-    let at = put_wheel(buf, at, v.y);
-    let at = put_wheel(buf, at, v.z);
-    put_wheel(buf, at, v.w)
-}
-
 // `E` and the refusal.
 fn put_failed(buf: &mut [u8; 128], at: usize, refusal: u8) -> usize
-    requires { ⌜ at ≤ 64 ⌝ }
     ensures { λ r. ⌜ Puts (now (buf .entry)) at (failedText refusal) (now (buf .exit)) r ⌝ }
-    ensures { λ r. ⌜ r ≤ at + 36 ⌝ }
 {
     let at = put_field(buf, at, b'E');
     put_decimal(buf, at, refusal as u32)
+}
+
+// A space and a byte.
+fn put_field(buf: &mut [u8; 128], at: usize, byte: u8) -> usize
+    ensures { λ r. ⌜ Puts (now (buf .entry)) at (field (byte ∷ [])) (now (buf .exit)) r ⌝ }
+{
+    let at = put_byte(buf, at, b' ');
+    put_byte(buf, at, byte)
 }
 
 // The letter of a mark that is on or off.

@@ -23,7 +23,7 @@ use Rattle.vision_gate.proofs.Held.{Held, held-active, unheld-inactive, held-wi
 use Rattle.body_controller.specs.declared.BodyController.{BodyController}
 use Rattle.body_controller.specs.declared.Choices.{Choices}
 use Rattle.body_controller.specs.declared.NewAnswer.the-variants as New
-use Rattle.body_controller.specs.declared.SightInput.{SightInput}
+use Rattle.call_inputs.specs.declared.SightInput.{SightInput}
 use Rattle.body_controller.specs.declared.SightResult.{SightResult}
 use Rattle.tick_parts.specs.declared.Refusal.the-variants.{OutOfTurn, TickLimit}
 use Rattle.body_controller.specs.Turn.{isSight}

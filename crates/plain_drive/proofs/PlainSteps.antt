@@ -22,10 +22,10 @@ use Rattle.tracking.specs.declared.TrackingDivergenceState.the-variants.{Normal
 use Rattle.tracking.specs.declared.HeldState.{HeldState}
 use Rattle.tracking.specs.declared.RecoveryAnswer.{RecoveryAnswer}
 use Rattle.tracking.specs.Recovery.{isRecovering, trackingErrorExceeded, atRest, recovery}
-use Rattle.body_controller.specs.declared.SightInput.{SightInput}
-use Rattle.body_controller.specs.declared.PlanInput.{PlanInput}
-use Rattle.body_controller.specs.declared.SteerInput.{SteerInput}
-use Rattle.body_controller.specs.declared.FinishInput.{FinishInput}
+use Rattle.call_inputs.specs.declared.SightInput.{SightInput}
+use Rattle.call_inputs.specs.declared.PlanInput.{PlanInput}
+use Rattle.call_inputs.specs.declared.SteerInput.{SteerInput}
+use Rattle.call_inputs.specs.declared.FinishInput.{FinishInput}
 use Rattle.plain_drive.specs.Calls.{Call, sight, plan, steer, finish, reset, accepted, refused, isTick, took, isReset}
 use Rattle.plain_drive.specs.PlainDrive.{DriveTurn, toSight, toPlan, toSteer, toFinish, DriveState, Step, turnedAway, seen, onSight, decidedOn, closed, onCommand, onPlan, onReset, cleared, anew, unplanned, followed, judgedState, turnedTo, steeredBy, onSteer, onFinish, step}
 

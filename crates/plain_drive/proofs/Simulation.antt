@@ -25,10 +25,10 @@ use Rattle.maneuvers.specs.Memory.{emptyMemory, trajectoryDropped, afterTrackin
 use Rattle.tracking.specs.Recovery.{recovery}
 use Rattle.body_controller.specs.declared.BodyController.{BodyController}
 use Rattle.tick_parts.specs.declared.Counts.{Counts}
-use Rattle.body_controller.specs.declared.SightInput.{SightInput}
-use Rattle.body_controller.specs.declared.PlanInput.{PlanInput}
-use Rattle.body_controller.specs.declared.SteerInput.{SteerInput}
-use Rattle.body_controller.specs.declared.FinishInput.{FinishInput}
+use Rattle.call_inputs.specs.declared.SightInput.{SightInput}
+use Rattle.call_inputs.specs.declared.PlanInput.{PlanInput}
+use Rattle.call_inputs.specs.declared.SteerInput.{SteerInput}
+use Rattle.call_inputs.specs.declared.FinishInput.{FinishInput}
 use Rattle.body_controller.specs.declared.Steered.{Steered}
 use Rattle.tick_parts.specs.Counts.{counted, countList}
 use Rattle.control_context.specs.declared.ControlContext.{ControlContext}

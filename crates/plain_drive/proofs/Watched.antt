@@ -18,7 +18,7 @@ use Rattle.vision_gate.specs.Gate.{judged}
 use Rattle.vision_gate.specs.Vision.{visionAfter}
 use Rattle.vision_gate.proofs.Outcomes.{Small, fresh-small, stays-small, Seeds, refused-seeds}
 use Rattle.vision_gate.proofs.Held.{Held, Unheld, taken-held, held-waits, unheld-waits}
-use Rattle.body_controller.specs.declared.SightInput.{SightInput}
+use Rattle.call_inputs.specs.declared.SightInput.{SightInput}
 use Rattle.plain_drive.specs.Calls.{Call, isTick, took}
 use Rattle.plain_drive.specs.PlainDrive.{DriveState, Step, start, grown, seen, step, driven, drivenReplies, resetsAfter}
 use Rattle.plain_drive.specs.EveryList.{Entry, callsOf, repliesOf, ticksIn, since, holding, total}

@@ -4,10 +4,10 @@ use mathlib.Core.Bool.{Bool, true, false}
 use Rattle.vision_gate.specs.declared.GateAction.{GateAction}
 use Rattle.vision_gate.specs.Outcome.{takes}
 use Rattle.maneuvers.specs.declared.PlanAnswer.{PlanAnswer}
-use Rattle.body_controller.specs.declared.SightInput.{SightInput}
-use Rattle.body_controller.specs.declared.PlanInput.{PlanInput}
-use Rattle.body_controller.specs.declared.SteerInput.{SteerInput}
-use Rattle.body_controller.specs.declared.FinishInput.{FinishInput}
+use Rattle.call_inputs.specs.declared.SightInput.{SightInput}
+use Rattle.call_inputs.specs.declared.PlanInput.{PlanInput}
+use Rattle.call_inputs.specs.declared.SteerInput.{SteerInput}
+use Rattle.call_inputs.specs.declared.FinishInput.{FinishInput}
 
 -- a call, with its inputs
 pub data Call : Type 0 where

@@ -13,7 +13,7 @@ use Rattle.vision_gate.specs.Gate.{distance}
 use Rattle.vision_gate.specs.Vision.{active}
 use Rattle.body_controller.specs.declared.BodyController.{BodyController}
 use Rattle.body_controller.specs.declared.NewAnswer.the-variants as New
-use Rattle.body_controller.specs.declared.SightInput.{SightInput}
+use Rattle.call_inputs.specs.declared.SightInput.{SightInput}
 use Rattle.body_controller.specs.declared.SightAnswer.{SightAnswer}
 use Rattle.body_controller.specs.declared.SightAnswer.the-variants as Sights
 use Rattle.body_controller.specs.declared.SightResult.{SightResult}

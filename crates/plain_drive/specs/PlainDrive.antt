@@ -32,9 +32,9 @@ use Rattle.tracking.specs.declared.HeldState.{HeldState}
 use Rattle.tracking.specs.declared.HeldState.the-variants as States
 use Rattle.tracking.specs.declared.RecoveryAnswer.{RecoveryAnswer}
 use Rattle.tracking.specs.Recovery.{isRecovering, recovery}
-use Rattle.body_controller.specs.declared.SightInput.{SightInput}
-use Rattle.body_controller.specs.declared.PlanInput.{PlanInput}
-use Rattle.body_controller.specs.declared.SteerInput.{SteerInput}
+use Rattle.call_inputs.specs.declared.SightInput.{SightInput}
+use Rattle.call_inputs.specs.declared.PlanInput.{PlanInput}
+use Rattle.call_inputs.specs.declared.SteerInput.{SteerInput}
 use Rattle.plain_drive.specs.Calls.{Call, sight, plan, steer, finish, reset, Reply, outcome, answer, accepted, refused, isReset}
 
 -- ---- 'State'

@@ -21,7 +21,8 @@ use libc::STDOUT_FILENO;
 use subject::Subject;
 use subject::fresh;
 use subject::next_step;
-use vector_run::report::Tally;
+use tally::Tally;
+use vector_run::report::line;
 
 // A run in progress.
 struct Progress {
@@ -123,7 +124,7 @@ fn run_list(fd: i32, list: ListOf) -> Tally {
 // Prints a list's line.
 fn print_line(name: &[u8], tally: Tally) {
     let mut text = [0u8; 80];
-    let n = tally.line(&mut text);
+    let n = line(tally, &mut text);
     io::write_all(STDOUT_FILENO, name);
     io::write_all(STDOUT_FILENO, &text[..n]);
 }

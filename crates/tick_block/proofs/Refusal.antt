@@ -7,12 +7,14 @@ use Rattle.tick_length.specs.declared.TickLengthAnswer.the-variants as Length
 use Rattle.tick_length.specs.TickLength.{isTickLength, tickLengthOf}
 use Rattle.maneuvers.specs.Command.{isMode}
 use Rattle.block_words.specs.Word.{wordAt}
-use Rattle.tick_block.specs.declared.BlockRefusal.{BlockRefusal}
-use Rattle.tick_block.specs.declared.BlockRefusal.the-variants as Why
-use Rattle.tick_block.specs.declared.Tested.{Tested}
-use Rattle.tick_block.specs.declared.Tested.the-variants.{Passed, Refused}
-use Rattle.tick_block.specs.Block.{isWhole, checks, isVersion, spareZero, testedWith, inputsTested, formatTested, blockTested, answerTo, blockRead, refusalNumber, answerNumber, blockRefusal}
-use Rattle.tick_block.specs.Layout as at
+use Rattle.block_check.specs.Layout as at
+use Rattle.block_check.specs.Check.{spareZero}
+use Rattle.block_tests.specs.declared.BlockRefusal.{BlockRefusal}
+use Rattle.block_tests.specs.declared.BlockRefusal.the-variants as Why
+use Rattle.block_tests.specs.declared.Tested.{Tested}
+use Rattle.block_tests.specs.declared.Tested.the-variants.{Passed, Refused}
+use Rattle.block_tests.specs.Tests.{isWhole, checks, isVersion, testedWith, inputsTested, formatTested, blockTested, refusalNumber}
+use Rattle.tick_block.specs.Block.{answerTo, blockRead, answerNumber, blockRefusal}
 
 -- the number of what the tests show
 abbrev testedNumber : Tested → ℕ

@@ -1,24 +1,22 @@
 // A lent block of any length is read as a tick block, a term of document 01, or refused.
-mod check; // check.rt: the check and the spare words
-mod inputs; // inputs.rt: the inputs of the four calls
-mod layout; // layout.rt: where the words lie
-mod parts; // parts.rt: state, samples and matrices
-mod tests; // tests.rt: the tests, in their order
-
 ghost use mathlib.Core.Path.{_≡_};
-ghost use Rattle.tick_block.specs.Block.{tickBlock, blockRead, refusalNumber, answerNumber, blockRefusal};
-use crate::inputs::finish_input;
-use crate::inputs::plan_input;
-use crate::inputs::sight_input;
-use crate::inputs::steer_input;
-use crate::layout::NUMBER;
-use crate::tests::block_tested;
+ghost use Rattle.tick_block.specs.Block.{tickBlock, blockRead, answerNumber, blockRefusal};
+use block_tests::BlockRefusal;
+use block_tests::Tested;
+use block_tests::block_tested;
 use block_words::word_at;
-use body_controller::FinishInput;
-use body_controller::PlanInput;
-use body_controller::SightInput;
-use body_controller::SteerInput;
+use call_inputs::FinishInput;
+use call_inputs::PlanInput;
+use call_inputs::SightInput;
+use call_inputs::SteerInput;
+use sight_inputs::plan_input;
+use sight_inputs::sight_input;
+use steer_inputs::finish_input;
+use steer_inputs::steer_input;
 use tick_length::TickLength;
+
+// Where the tick number lies, document 01, 'Records'.
+const NUMBER: usize = 1;
 
 pub struct TickBlock {
     // The tick number, from 0.
@@ -30,47 +28,9 @@ pub struct TickBlock {
     pub finish: FinishInput,
 }
 
-// Why a block is refused, in the order of document 01's numbers.
-pub enum BlockRefusal {
-    // 1: k not 1..64
-    TickLength,
-    // 4: mode not 0..3
-    Mode,
-    // 5: block not 512 bytes
-    Length,
-    // 6: check differs
-    Check,
-    // 7: version not 1
-    Version,
-    // 8: flags >= 32 or spare word not zero
-    Spare,
-}
-
-// What the tests of a block show: its tick length, where it passes them all.
-pub enum Tested {
-    Passed(TickLength),
-    Refused(BlockRefusal),
-}
-
 pub enum BlockAnswer {
     Read(TickBlock),
     Refused(BlockRefusal),
-}
-
-impl BlockRefusal {
-    // Document 01's number.
-    pub fn number(self) -> u8
-        ensures { λ r. ⌜ r ≡ refusalNumber self ⌝ }
-    {
-        match self {
-            BlockRefusal::TickLength => 1,
-            BlockRefusal::Mode => 4,
-            BlockRefusal::Length => 5,
-            BlockRefusal::Check => 6,
-            BlockRefusal::Version => 7,
-            BlockRefusal::Spare => 8,
-        }
-    }
 }
 
 fn tick_block(block: &[u8], tick: TickLength) -> TickBlock

@@ -6,11 +6,11 @@ use crate::put::put_vec3;
 use crate::state::put_state;
 use body_controller::BodyController;
 use body_controller::FinishAnswer;
-use body_controller::FinishInput;
 use body_controller::PlanCallAnswer;
 use body_controller::SightAnswer;
 use body_controller::SteerAnswer;
-use body_controller::SteerInput;
+use call_inputs::FinishInput;
+use call_inputs::SteerInput;
 use drive_pass::Rest;
 use tick_block::TickBlock;
 

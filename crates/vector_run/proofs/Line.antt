@@ -4,7 +4,7 @@ use mathlib.Core.Path.{_≡_, _∙_}
 use mathlib.Core.Bool.{Bool}
 use mathlib.Core.List.{List}
 use lib.ListN.{take}
-use Rattle.vector_run.specs.declared.report.Tally.{Tally}
+use Rattle.tally.specs.declared.Tally.{Tally}
 use Rattle.vector_run.specs.Line.{IsLine, Puts, PutsDecimal, space, mismatchesWord, ending}
 
 pub line-of :

@@ -1,3 +1,2 @@
 -- What the contracts of `vector_run` cite. Assumes nothing.
-pub mod Tally
 pub mod Line

@@ -6,7 +6,7 @@ use mathlib.Core.Bool.{Bool, cond}
 use mathlib.Core.List.{List, [], _∷_, _++_}
 use lib.ListN.{length, take}
 use Rattle.io.specs.Digits.{digits, Fewest}
-use Rattle.vector_run.specs.declared.report.Tally.{Tally}
+use Rattle.tally.specs.declared.Tally.{Tally}
 
 -- ` `
 abbrev pub space : List ℕ

@@ -1,2 +1,2 @@
-// What the programs over stored lists share: what a list has shown, and its line.
-pub mod report; // report.rt: what a list has shown, and its line
+// What the programs over stored lists share: a list's line.
+pub mod report; // report.rt: the line

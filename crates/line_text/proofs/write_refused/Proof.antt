@@ -1,5 +1,5 @@
 -- `line_text::write_refused` meets its contract: each field behind the one before. Assumes nothing.
-use Rattle.line_text.proofs.Placing.{then}
+use Rattle.text_pieces.proofs.Placing.{then}
 use Rattle.line_text.specs.Text.{refusedText}
 use borrow.Author.Needs.{needs}
 use Rattle.line_text.proofs.write_refused.Statement.{statement}
@@ -23,9 +23,9 @@ put-byte-requires c κs = search needs
 returns : tie.Need-returns
 unfolding refusedText
 returns c =
-    let number = c .before .before .before .before .before .before .before .put-decimal .ensures .0 in
+    let number = c .before .before .before .before .before .before .before .put-decimal .ensures in
     let mark = then number (c .before .before .before .before .before .put-field .ensures) in
-    let refusal = then mark (c .before .before .put-number .ensures .0) in
+    let refusal = then mark (c .before .before .put-number .ensures) in
     (then refusal (c .put-byte .ensures), search needs)
 
 pub write-refused-spec : {M : Type 1} → statement M

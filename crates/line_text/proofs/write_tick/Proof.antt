@@ -1,5 +1,5 @@
 -- `line_text::write_tick` meets its contract: each field behind the one before. Assumes nothing.
-use Rattle.line_text.proofs.Placing.{then}
+use Rattle.text_pieces.proofs.Placing.{then}
 use Rattle.line_text.specs.Text.{tickText}
 use borrow.Author.Needs.{needs}
 use Rattle.line_text.proofs.write_tick.Statement.{statement}
@@ -32,11 +32,11 @@ put-byte-requires c κs = search needs
 returns : tie.Need-returns
 unfolding tickText
 returns c =
-    let number = c .before .before .before .before .before .before .before .before .before .before .before .before .put-decimal .ensures .0 in
+    let number = c .before .before .before .before .before .before .before .before .before .before .before .before .put-decimal .ensures in
     let letter = then number (c .before .before .before .before .before .before .before .before .before .before .put-field .ensures) in
     let active = then letter (rw (c .before .before .before .before .before .before .before .before .mark .ensures) at (c .before .before .before .before .before .before .before .put-field2 .ensures)) in
     let recovering = then active (rw (c .before .before .before .before .before .mark2 .ensures) at (c .before .before .before .before .put-field3 .ensures)) in
-    let ending = then recovering (c .before .before .put-ending .ensures .0) in
+    let ending = then recovering (c .before .before .put-ending .ensures) in
     (then ending (c .put-byte .ensures), search needs)
 
 pub write-tick-spec : {M : Type 1} → statement M

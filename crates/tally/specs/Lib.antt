@@ -1,0 +1,2 @@
+-- What the contracts of `tally` cite. Assumes nothing.
+pub mod Tally

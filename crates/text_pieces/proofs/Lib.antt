@@ -1,0 +1,3 @@
+-- Laws that belong to no one function. Assumes nothing.
+pub mod Placing
+pub mod Digits
