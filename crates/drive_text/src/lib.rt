@@ -9,6 +9,7 @@ ghost use Rattle.line_text.specs.Text.{totalsText};
 ghost use Rattle.drive_pass.specs.Pass.{nextNumber, countsOf};
 ghost use Rattle.drive_text.specs.Written.{isRefused, written, blockText};
 ghost use Rattle.drive_text.specs.Batch.{textOf, batchInto, answerOf, nextOf};
+use drive_blocks::drive;
 use drive_pass::Pass;
 use line_text::Line;
 use line_text::write_line;
@@ -38,7 +39,7 @@ pub fn drive_block(pass: Pass, block: &[u8], buf: &mut [u8; 128]) -> Written
     ensures { λ r. ⌜ (r .len ≤ 128) × Within (r .len) (now (buf .exit)) ⌝ }
     ensures { λ _. ⌜ now (block .exit) ≡ now (block .entry) ⌝ }
 {
-    let driven = pass.drive(block);
+    let driven = drive(pass, block);
     let line = driven.line;
     let next = driven.pass;
     let refused = is_refused(line);

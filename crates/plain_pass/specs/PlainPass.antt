@@ -27,7 +27,8 @@ use Rattle.tick_block.specs.Block as Blocks
 use Rattle.drive_pass.specs.declared.Driven.{Driven}
 use Rattle.drive_pass.specs.declared.Pass.{Pass}
 use Rattle.drive_pass.specs.declared.Pass.the-variants.{Empty, Driving}
-use Rattle.drive_pass.specs.Pass.{nextNumber, countsOf, driven}
+use Rattle.drive_pass.specs.Pass.{nextNumber, countsOf}
+use Rattle.drive_blocks.specs.Blocks.{driven}
 
 -- ---- what is compared of a line
 

@@ -1,8 +1,8 @@
--- `drive_pass::drive_tick` meets its contract. Assumes nothing.
+-- `tick_calls::drive_tick` meets its contract. Assumes nothing.
 use borrow.Author.Needs.{needs}
-use Rattle.drive_pass.specs.Pass.{ticked}
-use Rattle.drive_pass.proofs.drive_tick.Statement.{statement}
-use Rattle.drive_pass.proofs.drive_tick.Tie as tie
+use Rattle.tick_calls.specs.Tick.{ticked}
+use Rattle.tick_calls.proofs.drive_tick.Statement.{statement}
+use Rattle.tick_calls.proofs.drive_tick.Tie as tie
 
 ticks-requires : tie.Need-ticks-requires
 ticks-requires c κs = search needs
@@ -19,25 +19,22 @@ letter-requires c κs = search needs
 plan-tick-requires : tie.Need-plan-tick-requires
 plan-tick-requires c κs = search needs
 
+returns : tie.Need-returns
+unfolding ticked
+returns c = rw (c .plan-tick .ensures, c .before .letter .ensures, c .before .before .before .before .before .before .ticks .ensures, ← c .before .before .before .before .before .sight .ensures .0, c .before .before .before .answer .given .1)
+
 enum-known-answer-2 : tie.Need-enum-known-answer-2
 enum-known-answer-2 c = search needs
 
 number-requires : tie.Need-number-requires
 number-requires c κs = search needs
 
-refuse-requires : tie.Need-refuse-requires
-refuse-requires c κs = search needs
-
-returns : tie.Need-returns
-unfolding ticked
-returns c =
-    let answer = c .before .before .before .before .before .before in
-    let sight = answer .before .before .before in
-    rw (c .plan-tick .ensures, c .before .before .before .before .letter .ensures, sight .before .ticks .ensures, ← sight .sight .ensures .0, answer .answer .given .1)
+refuse-tick-requires : tie.Need-refuse-tick-requires
+refuse-tick-requires c κs = search needs
 
 returns-2 : tie.Need-returns-2
 unfolding ticked
-returns-2 c = rw (c .refuse .ensures, c .before .number .ensures, ← c .before .before .before .before .before .before .sight .ensures .0, c .before .before .before .answer2 .given .1)
+returns-2 c = rw (c .refuse-tick .ensures, c .before .number .ensures, ← c .before .before .before .before .before .sight .ensures .0, c .before .before .before .answer2 .given .1)
 
 pub drive-tick-spec : {M : Type 1} → statement M
 drive-tick-spec =
@@ -51,5 +48,5 @@ drive-tick-spec =
     returns
     enum-known-answer-2
     number-requires
-    refuse-requires
+    refuse-tick-requires
     returns-2)
