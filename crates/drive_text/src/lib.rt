@@ -72,7 +72,7 @@ fn drive_next(done: Written, block: &[u8], out: &mut [u8]) -> Written
     let mut w = drive_block(pass, block, &mut line);
     let len = w.len;
     append(out, at, &line[..len]);
-    w.len = at + len;
+    w.len = done.len + len;
     w
 }
 

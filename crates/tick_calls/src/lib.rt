@@ -119,15 +119,15 @@ pub fn drive_tick(
 ) -> Driven
     ensures { λ r. ⌜ r ≡ ticked c sight plan steer finish ⌝ }
 {
-    let number = c.ticks();
     let result = c.sight(sight);
     let answer = result.answer;
     match answer {
         SightAnswer::Accepted(s) => {
             let action = s.action;
+            let letter = action.letter();
             let heading = Heading {
-                number,
-                letter: action.letter(),
+                number: c.ticks(),
+                letter,
             };
             return plan_tick(result.controller, heading, plan, steer, finish);
         }

@@ -4,9 +4,6 @@ use Rattle.tick_calls.specs.Tick.{ticked}
 use Rattle.tick_calls.proofs.drive_tick.Statement.{statement}
 use Rattle.tick_calls.proofs.drive_tick.Tie as tie
 
-ticks-requires : tie.Need-ticks-requires
-ticks-requires c κs = search needs
-
 sight-requires : tie.Need-sight-requires
 sight-requires c κs = search needs
 
@@ -16,12 +13,15 @@ enum-known-answer c = search needs
 letter-requires : tie.Need-letter-requires
 letter-requires c κs = search needs
 
+ticks-requires : tie.Need-ticks-requires
+ticks-requires c κs = search needs
+
 plan-tick-requires : tie.Need-plan-tick-requires
 plan-tick-requires c κs = search needs
 
 returns : tie.Need-returns
 unfolding ticked
-returns c = rw (c .plan-tick .ensures, c .before .letter .ensures, c .before .before .before .before .before .before .ticks .ensures, ← c .before .before .before .before .before .sight .ensures .0, c .before .before .before .answer .given .1)
+returns c = rw (c .plan-tick .ensures, c .before .before .letter .ensures, c .before .ticks .ensures, ← c .before .before .before .before .before .before .sight .ensures .0, c .before .before .before .before .answer .given .1)
 
 enum-known-answer-2 : tie.Need-enum-known-answer-2
 enum-known-answer-2 c = search needs
@@ -40,10 +40,10 @@ pub drive-tick-spec : {M : Type 1} → statement M
 drive-tick-spec =
     tie.close
     (tie.spec
-    ticks-requires
     sight-requires
     enum-known-answer
     letter-requires
+    ticks-requires
     plan-tick-requires
     returns
     enum-known-answer-2
