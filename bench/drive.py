@@ -42,14 +42,38 @@ fn one_byte(buf: &mut [u8; 128], line: Line) -> usize {
 """,
 )
 NO_TICK = (
-    "drive_pass/src/lib.rt",
-    "            if b.number == c.ticks() {\n                return drive_tick(c, b);\n",
-    "            if b.number >= c.ticks() {\n                return look_only(c, b);\n",
+    "drive_blocks/src/lib.rt",
+    """    if refusal == 0 {
+        match pass {
+            Pass::Empty => {
+                return begin(pass, b);
+            }
+            Pass::Driving(c) => {
+                return drive_tick(c, b.sight, b.plan, b.steer, b.finish);
+""",
+    """    if refusal % 10 == 0 {
+        match pass {
+            Pass::Empty => {
+                return begin(pass, b);
+            }
+            Pass::Driving(c) => {
+                return look_only(c, b);
+""",
     """
 fn look_only(c: BodyController, b: TickBlock) -> Driven {
     let sight = b.sight;
-    let heading = Heading { number: b.number, letter: b'Q' };
-    end_tick(c, heading, Ending::Wheels(sight.wheel_vel_meas))
+    let wheels = sight.wheel_vel_meas;
+    let line = line_text::TickLine {
+        number: b.number,
+        letter: b'Q',
+        active: c.vision_active(),
+        recovering: c.tracking_divergence_recovery_active(),
+        ending: line_text::Ending::Wheels(wheels),
+    };
+    Driven {
+        line: line_text::Line::Tick(line),
+        pass: Pass::Driving(c),
+    }
 }
 """,
 )

@@ -17,7 +17,7 @@ from unproved import Kit
 HERE = Path(__file__).resolve().parent
 TOP = HERE.parent
 # What only the lines show.
-TEXT = {"line_text", "drive_pass", "drive_text", "drive"}
+TEXT = {"line_text", "drive_pass", "tick_calls", "drive_blocks", "drive_text", "drive"}
 TEXT_FILES = {"tick_parts/src/count.rt"}
 REFUSALS = [1, 4, 5, 6, 7, 8, 9, 10]
 # k and ticks of each pass; the longer ones let the cameras run out at exactly 0.5, the shortest

@@ -4,6 +4,7 @@
 use crate::limit::put_byte;
 use crate::limit::put_word;
 use block_words::word_at;
+use drive_blocks::drive;
 use drive_pass::Pass;
 use libc::STDIN_FILENO;
 use libc::STDOUT_FILENO;
@@ -22,7 +23,7 @@ fn digit(refusal: u8) -> u8 {
 
 // How an empty pass answers a block: a dot for a tick, or the refusal.
 fn glyph(block: &[u8]) -> u8 {
-    let driven = Pass::Empty.drive(block);
+    let driven = drive(Pass::Empty, block);
     let line = driven.line;
     match line {
         Line::Tick(t) => b'.',

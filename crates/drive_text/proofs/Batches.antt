@@ -11,7 +11,7 @@ use Rattle.line_text.specs.declared.Line.{Line}
 use Rattle.line_text.specs.Text.{lineText}
 use Rattle.drive_pass.specs.declared.Pass.{Pass}
 use Rattle.drive_pass.specs.declared.Pass.the-variants.{Empty}
-use Rattle.drive_pass.specs.Pass.{driven}
+use Rattle.drive_blocks.specs.Blocks.{driven}
 use Rattle.plain_pass.specs.PlainPass.{Passed}
 use Rattle.plain_pass.proofs.EveryPass.{every-pass}
 use Rattle.drive_text.specs.Written.{isRefused}

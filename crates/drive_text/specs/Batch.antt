@@ -6,7 +6,7 @@ use lib.ListN.{length, take, drop}
 use Rattle.line_text.specs.declared.Line.{Line}
 use Rattle.line_text.specs.Text.{lineText}
 use Rattle.drive_pass.specs.declared.Pass.{Pass}
-use Rattle.drive_pass.specs.Pass.{driven}
+use Rattle.drive_blocks.specs.Blocks.{driven}
 use Rattle.drive_text.specs.declared.Written.{Written}
 use Rattle.drive_text.specs.Written.{isRefused, written}
 

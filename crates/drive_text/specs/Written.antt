@@ -7,7 +7,7 @@ use Rattle.line_text.specs.declared.Line.{Line}
 use Rattle.line_text.specs.declared.Line.the-variants.{Tick, Refused}
 use Rattle.line_text.specs.Text.{lineText}
 use Rattle.drive_pass.specs.declared.Pass.{Pass}
-use Rattle.drive_pass.specs.Pass.{driven}
+use Rattle.drive_blocks.specs.Blocks.{driven}
 use Rattle.drive_text.specs.declared.Written.{Written}
 
 -- a refused block's line

@@ -5,14 +5,15 @@ ghost use mathlib.Core.Path.{_≡_};
 ghost use Prim.Native.Nat.{_+_, _-_, _≤_, min};
 ghost use lib.ListN.{length, take, drop};
 ghost use Rattle.io.specs.Counts.{Counts as Within};
-ghost use Rattle.totals_text.specs.Totals.{totalsText};
+ghost use Rattle.line_text.specs.Text.{totalsText};
 ghost use Rattle.drive_pass.specs.Pass.{nextNumber, countsOf};
 ghost use Rattle.drive_text.specs.Written.{isRefused, written, blockText};
 ghost use Rattle.drive_text.specs.Batch.{textOf, batchInto, answerOf, nextOf};
+use drive_blocks::drive;
 use drive_pass::Pass;
 use line_text::Line;
 use line_text::write_line;
-use totals_text::write_totals;
+use line_text::write_totals;
 
 // The pass after a block or several, how many bytes of text they gave, and whether one was refused,
 // which ends the reading.
@@ -38,7 +39,7 @@ pub fn drive_block(pass: Pass, block: &[u8], buf: &mut [u8; 128]) -> Written
     ensures { λ r. ⌜ (r .len ≤ 128) × Within (r .len) (now (buf .exit)) ⌝ }
     ensures { λ _. ⌜ now (block .exit) ≡ now (block .entry) ⌝ }
 {
-    let driven = pass.drive(block);
+    let driven = drive(pass, block);
     let line = driven.line;
     let next = driven.pass;
     let refused = is_refused(line);
@@ -71,7 +72,7 @@ fn drive_next(done: Written, block: &[u8], out: &mut [u8]) -> Written
     let mut w = drive_block(pass, block, &mut line);
     let len = w.len;
     append(out, at, &line[..len]);
-    w.len = at + len;
+    w.len = done.len + len;
     w
 }
 

@@ -6,14 +6,15 @@ use mathlib.Core.List.{List, [], _∷_, head-eq-of-cons-eq}
 use lib.Dec.{eqb}
 use Rattle.tick_length.specs.TickLength.{isTickLength, tickLengthOf}
 use Rattle.body_controller.specs.declared.BodyController.{BodyController}
-use Rattle.call_inputs.specs.declared.FinishInput.{FinishInput}
+use Rattle.body_controller.specs.declared.FinishInput.{FinishInput}
 use Rattle.body_controller.specs.declared.FinishAnswer.{FinishAnswer}
 use Rattle.body_controller.specs.declared.FinishAnswer.the-variants as Finishes
+use Rattle.body_controller.specs.declared.PlanInput.{PlanInput}
 use Rattle.body_controller.specs.declared.PlanCallAnswer.{PlanCallAnswer}
 use Rattle.body_controller.specs.declared.PlanCallAnswer.the-variants as Plans
 use Rattle.body_controller.specs.declared.SightAnswer.{SightAnswer}
 use Rattle.body_controller.specs.declared.SightAnswer.the-variants as Sights
-use Rattle.call_inputs.specs.declared.SteerInput.{SteerInput}
+use Rattle.body_controller.specs.declared.SteerInput.{SteerInput}
 use Rattle.body_controller.specs.declared.SteerAnswer.{SteerAnswer}
 use Rattle.body_controller.specs.declared.SteerAnswer.the-variants as Steers
 use Rattle.tick_parts.specs.Counts.{noCounts, countList}
@@ -33,11 +34,12 @@ use Rattle.tick_block.specs.declared.BlockAnswer.the-variants as Block
 use Rattle.tick_block.specs.declared.TickBlock.{TickBlock}
 use Rattle.tick_block.specs.Block as Blocks
 use Rattle.drive_pass.specs.declared.Driven.{Driven}
-use Rattle.drive_pass.specs.declared.Heading.{Heading}
 use Rattle.drive_pass.specs.declared.Pass.{Pass}
 use Rattle.drive_pass.specs.declared.Pass.the-variants.{Empty, Driving}
-use Rattle.drive_pass.specs.declared.Rest.{Rest}
-use Rattle.drive_pass.specs.Pass.{nextNumber, countsOf, refusedBy, endedBy, finishedWith, finished, steeredWith, steered, plannedWith, planned, tickedWith, ticked, begunWith, first, wentOn, drivenWith, driven}
+use Rattle.drive_pass.specs.Pass.{nextNumber, countsOf, refusedBy}
+use Rattle.tick_calls.specs.declared.Heading.{Heading}
+use Rattle.tick_calls.specs.Tick.{endedBy, endingOf, finished, steeredWith, steered, plannedWith, planned, tickedWith, ticked}
+use Rattle.drive_blocks.specs.Blocks.{orderRefusal, tickedOn, begunWith, begun, takenWith, taken, drivenWith, driven}
 use Rattle.plain_pass.specs.PlainPass.{endingNumber, markOf, PlainPass, none, at, PlainDriven, replyAfter, refusalIn, endedAt, atFinish, atSteer, atPlan, plainTick, plainTicks, plainCounts, refusedAt, plainTake, plainRead, plainPass, plainMarks, Passed, marksOf, StandsOn, EveryPass}
 
 -- a controller behind the calls of a pass
@@ -83,14 +85,14 @@ ended-agrees k calls c h ending n b e = record { mark = rw (e, ← stands k call
 module _ (k : ℕ) (h : Heading) where
   finish-agrees : (calls : List Call) (c : BodyController) (f : FinishInput) → Behind k calls c → Agrees (finished c h f) (atFinish k calls (h .number) (h .letter) f)
   unfolding finished
-  finish-agrees calls c f b = go (finishOf c f .answer) refl
+  finish-agrees calls c f b = ended-agrees k (finish f ∷ calls) (finishOf c f .controller) h _ _ (after k calls c b (finish f) _ _ meets) (ending (finishOf c f .answer) ∙ ap refusalIn (replied k calls c b (finish f) _ _ meets))
     where
       meets : Meets c (finish f) (finishReply (finishOf c f .answer)) (finishOf c f .controller)
       meets = (finishOf c f, refl, refl, refl)
 
-      go : (a : FinishAnswer) → finishOf c f .answer ≡ a → Agrees (finishedWith a (finishOf c f .controller) h) (atFinish k calls (h .number) (h .letter) f)
-      go (Finishes.Accepted x) e = ended-agrees k (finish f ∷ calls) (finishOf c f .controller) h _ _ (after k calls c b (finish f) _ _ meets) (ap refusalIn (sym (ap finishReply e) ∙ replied k calls c b (finish f) _ _ meets))
-      go (Finishes.Refused r) e = ended-agrees k (finish f ∷ calls) (finishOf c f .controller) h _ _ (after k calls c b (finish f) _ _ meets) (ap refusalIn (sym (ap finishReply e) ∙ replied k calls c b (finish f) _ _ meets))
+      ending : (a : FinishAnswer) → endingNumber (endingOf a) ≡ refusalIn (finishReply a)
+      ending (Finishes.Accepted x) = refl
+      ending (Finishes.Refused r) = refl
 
   steer-agrees : (calls : List Call) (c : BodyController) (s : SteerInput) (f : FinishInput) → Behind k calls c → Agrees (steered c h s f) (atSteer k calls (h .number) (h .letter) s f)
   unfolding steered
@@ -103,18 +105,18 @@ module _ (k : ℕ) (h : Heading) where
       go (Steers.Accepted x) e = rw (sym (replied k calls c b (steer s) _ _ meets) ∙ ap steerReply e) (finish-agrees (steer s ∷ calls) (steerOf c s .controller) f (after k calls c b (steer s) _ _ meets))
       go (Steers.Refused r) e = rw (sym (replied k calls c b (steer s) _ _ meets) ∙ ap steerReply e) (ended-agrees k (steer s ∷ calls) (steerOf c s .controller) h _ _ (after k calls c b (steer s) _ _ meets) refl)
 
-  plan-agrees : (calls : List Call) (c : BodyController) (rest : Rest) → Behind k calls c → Agrees (planned c h rest) (atPlan k calls (h .number) (h .letter) (rest .plan) (rest .steer) (rest .finish))
+  plan-agrees : (calls : List Call) (c : BodyController) (p : PlanInput) (s : SteerInput) (f : FinishInput) → Behind k calls c → Agrees (planned c h p s f) (atPlan k calls (h .number) (h .letter) p s f)
   unfolding planned
-  plan-agrees calls c rest b = go (planOf c (rest .plan) .answer) refl
+  plan-agrees calls c p s f b = go (planOf c p .answer) refl
     where
-      meets : Meets c (plan (rest .plan)) (planReply (planOf c (rest .plan) .answer)) (planOf c (rest .plan) .controller)
-      meets = (planOf c (rest .plan), refl, refl, refl)
+      meets : Meets c (plan p) (planReply (planOf c p .answer)) (planOf c p .controller)
+      meets = (planOf c p, refl, refl, refl)
 
-      go : (a : PlanCallAnswer) → planOf c (rest .plan) .answer ≡ a → Agrees (plannedWith a (planOf c (rest .plan) .controller) h rest) (atPlan k calls (h .number) (h .letter) (rest .plan) (rest .steer) (rest .finish))
-      go (Plans.Accepted x) e = rw (sym (replied k calls c b (plan (rest .plan)) _ _ meets) ∙ ap planReply e) (steer-agrees (plan (rest .plan) ∷ calls) (planOf c (rest .plan) .controller) (rest .steer) (rest .finish) (after k calls c b (plan (rest .plan)) _ _ meets))
-      go (Plans.Refused r) e = rw (sym (replied k calls c b (plan (rest .plan)) _ _ meets) ∙ ap planReply e) (ended-agrees k (plan (rest .plan) ∷ calls) (planOf c (rest .plan) .controller) h _ _ (after k calls c b (plan (rest .plan)) _ _ meets) refl)
+      go : (a : PlanCallAnswer) → planOf c p .answer ≡ a → Agrees (plannedWith a (planOf c p .controller) h s f) (atPlan k calls (h .number) (h .letter) p s f)
+      go (Plans.Accepted x) e = rw (sym (replied k calls c b (plan p) _ _ meets) ∙ ap planReply e) (steer-agrees (plan p ∷ calls) (planOf c p .controller) s f (after k calls c b (plan p) _ _ meets))
+      go (Plans.Refused r) e = rw (sym (replied k calls c b (plan p) _ _ meets) ∙ ap planReply e) (ended-agrees k (plan p ∷ calls) (planOf c p .controller) h _ _ (after k calls c b (plan p) _ _ meets) refl)
 
-tick-agrees : (k : ℕ) (calls : List Call) (c : BodyController) (b : TickBlock) → Behind k calls c → Agrees (ticked c b) (plainTick k calls b)
+tick-agrees : (k : ℕ) (calls : List Call) (c : BodyController) (b : TickBlock) → Behind k calls c → Agrees (tickedOn c b) (plainTick k calls b)
 unfolding ticked plainTick refusedBy
 tick-agrees k calls c b m = go (sightOf c (b .sight) .answer) refl
   where
@@ -124,10 +126,10 @@ tick-agrees k calls c b m = go (sightOf c (b .sight) .answer) refl
     ticks : c .ticks ≡ Plain.driven k calls .ticks
     ticks = unfold driveOf in ap (λ (s : Plain.DriveState). s .ticks) (stands k calls c m)
 
-    go : (a : SightAnswer) → sightOf c (b .sight) .answer ≡ a → Agrees (tickedWith a c (sightOf c (b .sight) .controller) b) (plainTick k calls b)
+    go : (a : SightAnswer) → sightOf c (b .sight) .answer ≡ a → Agrees (tickedWith a c (sightOf c (b .sight) .controller) (b .plan) (b .steer) (b .finish)) (plainTick k calls b)
     go (Sights.Accepted x) e =
         rw (sym (replied k calls c m (sight (b .sight)) _ _ meets) ∙ ap sightReply e, ← ticks)
-        (plan-agrees k _ (sight (b .sight) ∷ calls) (sightOf c (b .sight) .controller) _ (after k calls c m (sight (b .sight)) _ _ meets))
+        (plan-agrees k _ (sight (b .sight) ∷ calls) (sightOf c (b .sight) .controller) (b .plan) (b .steer) (b .finish) (after k calls c m (sight (b .sight)) _ _ meets))
     go (Sights.Refused r) e = rw (sym (replied k calls c m (sight (b .sight)) _ _ meets) ∙ ap sightReply e) (record { mark = rw ticks; pass = m })
 
 -- ---- a block
@@ -152,25 +154,25 @@ unfolding refusedBy
 refused-agrees n p q m = record { mark = rw (ticks-beside p q m); pass = m }
 
 -- the first block
-first-agrees : (b : TickBlock) → Agrees (first b) (plainTake none b)
-unfolding first
-first-agrees b = go (eqb (b .number) 0) (isTickLength (b .tick .k)) refl
+first-agrees : (b : TickBlock) → Agrees (taken Empty b) (plainTake none b)
+unfolding taken begun
+first-agrees b = go (eqb (b .number) 0)
   where
-    begun : (made : Bool) → isTickLength (b .tick .k) ≡ made → Agrees (begunWith (newOf (b .tick .k)) b) (cond made (plainTick (b .tick .k) [] b) (refusedAt 1 none))
-    begun true e = unfold newOf tickLengthOf in rw e (tick-agrees (b .tick .k) [] (started (record { tick = record { k = b .tick .k } })) b ([], unfold callsOf in refl, unfold Made newOf tickLengthOf in rw e))
-    begun false e = unfold newOf tickLengthOf in rw e (refused-agrees 1 Empty none tt)
+    made : (m : Bool) → isTickLength (b .tick .k) ≡ m → Agrees (begunWith (newOf (b .tick .k)) Empty b) (cond m (plainTick (b .tick .k) [] b) (refusedAt 1 none))
+    made true e = unfold newOf tickLengthOf in rw e (tick-agrees (b .tick .k) [] (started (record { tick = record { k = b .tick .k } })) b ([], unfold callsOf in refl, unfold Made newOf tickLengthOf in rw e))
+    made false e = unfold newOf tickLengthOf in rw e (refused-agrees 1 Empty none tt)
 
-    go : (zero made : Bool) → isTickLength (b .tick .k) ≡ made → Agrees (cond zero (begunWith (newOf (b .tick .k)) b) (refusedBy 10 Empty)) (cond zero (cond (isTickLength (b .tick .k)) (plainTick (b .tick .k) [] b) (refusedAt 1 none)) (refusedAt 10 none))
-    go true made e = begun (isTickLength (b .tick .k)) refl
-    go false made e = refused-agrees 10 Empty none tt
+    go : (zero : Bool) → Agrees (takenWith (cond zero 0 10) Empty b) (cond zero (cond (isTickLength (b .tick .k)) (plainTick (b .tick .k) [] b) (refusedAt 1 none)) (refusedAt 10 none))
+    go true = made (isTickLength (b .tick .k)) refl
+    go false = refused-agrees 10 Empty none tt
 
 -- a later block
-later-agrees : (k : ℕ) (calls : List Call) (c : BodyController) (b : TickBlock) → Behind k calls c → Agrees (wentOn c b) (plainTake (at k calls) b)
-unfolding wentOn
+later-agrees : (k : ℕ) (calls : List Call) (c : BodyController) (b : TickBlock) → Behind k calls c → Agrees (taken (Driving c) b) (plainTake (at k calls) b)
+unfolding taken
 later-agrees k calls c b m = rw (ap (eqb (b .tick .k)) (demand3 k (m .0) c (m .2) .tickLength), ap (eqb (b .number)) (ticks-beside (Driving c) (at k calls) m)) (go (eqb (b .tick .k) k) (eqb (b .number) (plainTicks (at k calls))))
   where
     go : (same next : Bool)
-        → Agrees (cond same (cond next (ticked c b) (refusedBy 10 (Driving c))) (refusedBy 9 (Driving c))) (cond same (cond next (plainTick k calls b) (refusedAt 10 (at k calls))) (refusedAt 9 (at k calls)))
+        → Agrees (takenWith (cond same (cond next 0 10) 9) (Driving c) b) (cond same (cond next (plainTick k calls b) (refusedAt 10 (at k calls))) (refusedAt 9 (at k calls)))
     go true true = tick-agrees k calls c b m
     go true false = refused-agrees 10 (Driving c) (at k calls) m
     go false next = refused-agrees 9 (Driving c) (at k calls) m

@@ -9,9 +9,9 @@ use Rattle.tick_length.specs.TickLength.{isTickLength, secondsOf}
 use Rattle.vision_gate.specs.Outcome.{letterOf}
 use Rattle.vision_gate.specs.Vision.{active}
 use Rattle.tracking.specs.Recovery.{isRecovering}
-use Rattle.call_inputs.specs.declared.FinishInput.{FinishInput}
-use Rattle.call_inputs.specs.declared.PlanInput.{PlanInput}
-use Rattle.call_inputs.specs.declared.SteerInput.{SteerInput}
+use Rattle.body_controller.specs.declared.FinishInput.{FinishInput}
+use Rattle.body_controller.specs.declared.PlanInput.{PlanInput}
+use Rattle.body_controller.specs.declared.SteerInput.{SteerInput}
 use Rattle.tick_parts.specs.Counts.{countList}
 use Rattle.plain_drive.specs.Calls.{Call, sight, plan, steer, finish, Reply, outcome, answer, accepted, refused}
 use Rattle.plain_drive.specs.PlainDrive as Plain
@@ -27,7 +27,8 @@ use Rattle.tick_block.specs.Block as Blocks
 use Rattle.drive_pass.specs.declared.Driven.{Driven}
 use Rattle.drive_pass.specs.declared.Pass.{Pass}
 use Rattle.drive_pass.specs.declared.Pass.the-variants.{Empty, Driving}
-use Rattle.drive_pass.specs.Pass.{nextNumber, countsOf, driven}
+use Rattle.drive_pass.specs.Pass.{nextNumber, countsOf}
+use Rattle.drive_blocks.specs.Blocks.{driven}
 
 -- ---- what is compared of a line
 

@@ -6,12 +6,12 @@ use crate::put::put_vec3;
 use crate::state::put_state;
 use body_controller::BodyController;
 use body_controller::FinishAnswer;
+use body_controller::FinishInput;
 use body_controller::PlanCallAnswer;
+use body_controller::PlanInput;
 use body_controller::SightAnswer;
 use body_controller::SteerAnswer;
-use call_inputs::FinishInput;
-use call_inputs::SteerInput;
-use drive_pass::Rest;
+use body_controller::SteerInput;
 use tick_block::TickBlock;
 
 // The controller after a tick, and the number that sight was refused with, or 0.
@@ -64,14 +64,20 @@ fn steer(
     }
 }
 
-fn plan(c: BodyController, rest: Rest, words: &mut [u32; 96]) -> BodyController {
-    let result = c.plan(rest.plan);
+fn plan(
+    c: BodyController,
+    i: PlanInput,
+    next: SteerInput,
+    last: FinishInput,
+    words: &mut [u32; 96],
+) -> BodyController {
+    let result = c.plan(i);
     let answer = result.answer;
     let after = result.controller;
     match answer {
         PlanCallAnswer::Accepted(a) => {
             put_plan(words, a);
-            return steer(after, rest.steer, rest.finish, words);
+            return steer(after, next, last, words);
         }
         PlanCallAnswer::Refused(r) => {
             words[18] = 4;
@@ -88,16 +94,8 @@ pub(crate) fn run_tick(c: BodyController, b: TickBlock, words: &mut [u32; 96]) -
     match answer {
         SightAnswer::Accepted(s) => {
             put_sighted(words, s);
-            let plan_input = b.plan;
-            let steer_input = b.steer;
-            let finish_input = b.finish;
-            let rest = Rest {
-                plan: plan_input,
-                steer: steer_input,
-                finish: finish_input,
-            };
             return Ran {
-                controller: plan(after, rest, words),
+                controller: plan(after, b.plan, b.steer, b.finish, words),
                 refusal: 0,
             };
         }

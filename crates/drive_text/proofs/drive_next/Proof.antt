@@ -40,11 +40,11 @@ same-length c = search needs
 returns : tie.Need-returns
 unfolding nextOf written
 returns c =
-    let start = c .before .before .before .before .before .before .before .before .before in
-    let d = c .before .before .before .before .before .drive-block .ensures in
+    let start = c .before .before .before .before .before .before .before .before .before .before in
+    let d = c .before .before .before .before .before .before .drive-block .ensures in
     let text = blockText (start .args .done .pass) (start .args .block .now) in (
       ap (λ (w : Written). record { pass = w .pass; len = start .args .done .len + w .len; refused = w .refused }) (d .0),
-      (line-placed (start .args .out .now) _ _ text _ (start .args .done .len) _ (ap (λ (w : Written). w .len) (d .0)) (d .1 .0) (c .before .before .append .ensures), omega (arith, d .1 .1 .0 .0)),
+      (line-placed (start .args .out .now) _ _ text _ (start .args .done .len) _ (ap (λ (w : Written). w .len) (d .0)) (d .1 .0) (c .before .before .before .append .ensures), omega (arith, d .1 .1 .0 .0)),
     )
 
 pub drive-next-spec : {M : Type 1} → statement M

@@ -1,8 +1,8 @@
--- `drive_pass::end_tick` meets its contract. Assumes nothing.
+-- `tick_calls::end_tick` meets its contract. Assumes nothing.
 use borrow.Author.Needs.{needs}
-use Rattle.drive_pass.specs.Pass.{endedBy}
-use Rattle.drive_pass.proofs.end_tick.Statement.{statement}
-use Rattle.drive_pass.proofs.end_tick.Tie as tie
+use Rattle.tick_calls.specs.Tick.{endedBy}
+use Rattle.tick_calls.proofs.end_tick.Statement.{statement}
+use Rattle.tick_calls.proofs.end_tick.Tie as tie
 
 vision-active-requires : tie.Need-vision-active-requires
 vision-active-requires c κs = search needs

@@ -1,9 +1,9 @@
--- `drive_pass::Pass::drive` meets its contract. Assumes nothing.
-use mathlib.Core.Path.{refl}
+-- `drive_blocks::drive` meets its contract. Assumes nothing.
 use borrow.Author.Needs.{needs}
-use Rattle.drive_pass.specs.Pass.{driven}
-use Rattle.drive_pass.proofs.Pass.drive.Statement.{statement}
-use Rattle.drive_pass.proofs.Pass.drive.Tie as tie
+use mathlib.Core.Path.{refl}
+use Rattle.drive_blocks.specs.Blocks.{driven}
+use Rattle.drive_blocks.proofs.drive.Statement.{statement}
+use Rattle.drive_blocks.proofs.drive.Tie as tie
 
 read-requires : tie.Need-read-requires
 read-requires c κs = search needs
@@ -14,6 +14,10 @@ enum-known-answer c = search needs
 take-requires : tie.Need-take-requires
 take-requires c κs = search needs
 
+returns : tie.Need-returns
+unfolding driven
+returns c = (rw (c .take .ensures, ← c .before .before .before .before .read .ensures .0, c .before .before .answer .given .1), refl)
+
 enum-known-answer-2 : tie.Need-enum-known-answer-2
 enum-known-answer-2 c = search needs
 
@@ -22,10 +26,6 @@ number-requires c κs = search needs
 
 refuse-requires : tie.Need-refuse-requires
 refuse-requires c κs = search needs
-
-returns : tie.Need-returns
-unfolding driven
-returns c = (rw (c .take .ensures, ← c .before .before .before .before .read .ensures .0, c .before .before .answer .given .1), refl)
 
 returns-2 : tie.Need-returns-2
 unfolding driven

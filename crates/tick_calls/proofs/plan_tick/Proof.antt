@@ -1,8 +1,8 @@
--- `drive_pass::plan_tick` meets its contract. Assumes nothing.
+-- `tick_calls::plan_tick` meets its contract. Assumes nothing.
 use borrow.Author.Needs.{needs}
-use Rattle.drive_pass.specs.Pass.{planned}
-use Rattle.drive_pass.proofs.plan_tick.Statement.{statement}
-use Rattle.drive_pass.proofs.plan_tick.Tie as tie
+use Rattle.tick_calls.specs.Tick.{planned}
+use Rattle.tick_calls.proofs.plan_tick.Statement.{statement}
+use Rattle.tick_calls.proofs.plan_tick.Tie as tie
 
 plan-requires : tie.Need-plan-requires
 plan-requires c κs = search needs
@@ -13,6 +13,10 @@ enum-known-answer c = search needs
 steer-tick-requires : tie.Need-steer-tick-requires
 steer-tick-requires c κs = search needs
 
+returns : tie.Need-returns
+unfolding planned
+returns c = rw (c .steer-tick .ensures, ← c .before .before .before .before .plan .ensures .0, c .before .before .answer .given .1)
+
 enum-known-answer-2 : tie.Need-enum-known-answer-2
 enum-known-answer-2 c = search needs
 
@@ -22,13 +26,9 @@ number-requires c κs = search needs
 end-tick-requires : tie.Need-end-tick-requires
 end-tick-requires c κs = search needs
 
-returns : tie.Need-returns
-unfolding planned
-returns c = rw (c .steer-tick .ensures, ← c .before .before .before .before .before .plan .ensures .0, c .before .before .answer .given .1)
-
 returns-2 : tie.Need-returns-2
 unfolding planned
-returns-2 c = rw (c .end-tick .ensures, c .before .number .ensures, ← c .before .before .before .before .before .before .plan .ensures .0, c .before .before .before .answer2 .given .1)
+returns-2 c = rw (c .end-tick .ensures, c .before .number .ensures, ← c .before .before .before .before .before .plan .ensures .0, c .before .before .before .answer2 .given .1)
 
 pub plan-tick-spec : {M : Type 1} → statement M
 plan-tick-spec =

@@ -1,0 +1,2 @@
+-- What the contracts of `drive_blocks` cite. Assumes nothing.
+pub mod Blocks
