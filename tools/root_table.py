@@ -1,40 +1,47 @@
 """Writes crates/root_table/src/lib.rt: python3 tools/root_table.py > crates/root_table/src/lib.rt && rt fmt
 
-For each last digit of an exponent's field and each interval of 2^16 significands from 2^23 to 2^24, the parabola through
-three points of the root of m * 2^23 or, where the digit is 0, m * 2^24, by the distance d of m from the interval's end, in
-whole numbers."""
+For each last digit of an exponent's field and each interval of 2^18 significands from 2^23 to 2^24, a cubic near the root of
+m * 2^23 or, where the digit is 0, m * 2^24, by the distance d of m from the interval's start, in whole numbers. Each
+coefficient is the leading one of the polynomial through as many points as it takes, of what the rounded ones above it leave."""
 import math
 from decimal import Decimal, getcontext
 
 getcontext().prec = 60
-WIDTH = 1 << 16
+WIDTH = 1 << 18
 
 
-def parabola(i):
-    end = (1 << 23) + (i % 128 + 1) * WIDTH - 1
-    root = lambda d: (Decimal(end - d) * (2 - i // 128) * (1 << 23)).sqrt()
-    ds = [round((WIDTH - 1) * 0.5 * (1 - math.cos((2 * k + 1) * math.pi / 6))) for k in range(3)]
-    ys = [root(d) for d in ds]
-    first = (ys[1] - ys[0]) / (ds[1] - ds[0])
-    second = ((ys[2] - ys[1]) / (ds[2] - ds[1]) - first) / (ds[2] - ds[0])
-    slope = first - second * (ds[0] + ds[1])
-    value = ys[0] - slope * ds[0] - second * ds[0] * ds[0]
-    half = Decimal('0.5')
-    return int((value + half) * 2**32), int(-slope * 2**32 + half), int(-second * 2**48 + half)
+def leading(f, degree):
+    """The leading coefficient of the polynomial through f at the Chebyshev points of an interval."""
+    points = [round((WIDTH - 1) * 0.5 * (1 - math.cos((2 * k + 1) * math.pi / (2 * degree + 2)))) for k in range(degree + 1)]
+    return sum(f(p) / math.prod(p - q for q in points if q != p) for p in points)
 
 
-def function(name, width, entries, comment):
-    print(f'\n// {comment}\npub fn {name}(i: u32) -> u{width}\n    ensures {{ λ r. ⌜ r < 2 ^ {width} ⌝ }}\n{{\n    match i {{')
+def cubic(i):
+    start = (1 << 23) + i % 32 * WIDTH
+    root = lambda d: (Decimal(start + d) * (2 - i // 32) * (1 << 23)).sqrt() + Decimal('0.5')
+    third = round(leading(root, 3) * 2 ** 57)
+    parabola = lambda d: root(d) - Decimal(third * d ** 3) / 2 ** 57
+    bend = round(-leading(parabola, 2) * 2 ** 57)
+    line = lambda d: parabola(d) + Decimal(bend * d ** 2) / 2 ** 57
+    slope = round((leading(line, 1) * 2 ** 40 - third) / 2 ** 8) * 2 ** 8 + third
+    value = round((leading(lambda d: line(d) - Decimal(slope * d) / 2 ** 40, 0) * 2 ** 40 - bend) / 2 ** 32) * 2 ** 32 + bend
+    return value, slope
+
+
+def function(name, ensures, entries, comment):
+    print(f'\n{comment}\npub fn {name}(i: u32) -> u64\n    ensures {{ λ r. ⌜ {ensures} ⌝ }}\n{{\n    match i {{')
     for i, entry in enumerate(entries):
-        print(f'        {i if i < 255 else "_"} => 0x{entry:x},')
+        print(f'        {i if i < 63 else "_"} => 0x{entry:x},')
     print('    }\n}')
 
 
-print('''// The parabolas of ieee754's first guess at a root, one for each last digit of an exponent's
-// field and each of 128 intervals of significands. Only speed rests on these numbers. They stand in matches, which
-// compile to tables that no call copies. tools/root_table.py writes this file.
-ghost use Prim.Native.Nat.{_<_, _^_};''')
-values, slopes, curves = zip(*map(parabola, range(256)))
-function('value', 64, values, "The root at the interval's end and a half, times 2^32.")
-function('slope', 32, slopes, 'How much the root falls for each step away from the end, times 2^32.')
-function('curve', 32, curves, 'How much faster it falls with each step, times 2^48.')
+print('''// The cubics of ieee754's first guess at a root, one for each last digit of an exponent's field and
+// each of 32 intervals of significands. Only speed rests on these numbers; the contracts keep the
+// guess's differences and products in range. They stand in matches, which compile to tables that no
+// call copies. tools/root_table.py writes this file.
+ghost use Prim.Native.Nat.{_%_, _^_, _≤_, _<_};''')
+values, slopes = zip(*map(cubic, range(64)))
+function('value', '2 ^ 26 ≤ r % 2 ^ 32', values, '''// The root at the interval's start and a half, times 2^40. Its last 32 digits are the bend too: how
+// much less the root rises with each step from the start, times 2^57.''')
+function('slope', 'r < 2 ^ 40', slopes, '''// How much the root rises with each step, times 2^40. Its last 8 digits are also how much less the
+// bend is with each step, times 2^57.''')

@@ -1,6 +1,7 @@
 // The tick limit: quiet blocks up to the first that is refused with 3.
 use crate::print_last;
 use drive_pass::Pass;
+use drive_text::Written;
 use drive_text::drive_block;
 use libc::STDOUT_FILENO;
 
@@ -23,26 +24,17 @@ pub(crate) fn put_word(block: &mut [u8], i: u8, word: u32) {
     put_byte(block, at + 3, (word / 0x100_0000 % 256) as u8);
 }
 
-struct Quiet {
-    pass: Pass,
-    over: bool,
-}
-
 // Drives the quiet block of this number, and prints its line where it is refused.
-fn drive_quiet(pass: Pass, block: &mut [u8], number: u32) -> Quiet {
+fn drive_quiet(pass: Pass, block: &mut [u8], number: u32) -> Written {
     put_word(block, 1, number);
     put_word(block, 127, std::num::wrapping_add_u32(number, 6));
     let mut line = [0; 128];
     let w = drive_block(pass, block, &mut line);
-    let len = w.len;
-    let next = w.pass;
     if w.refused {
+        let len = w.len;
         io::write_all(STDOUT_FILENO, &line[..len]);
     }
-    Quiet {
-        pass: next,
-        over: w.refused,
-    }
+    w
 }
 
 pub(crate) fn drive_to_limit() {
@@ -52,9 +44,9 @@ pub(crate) fn drive_to_limit() {
     let mut pass = Pass::Empty;
     let mut number: u32 = 0;
     while number < BLOCKS {
-        let q = drive_quiet(pass, &mut block, number);
-        pass = q.pass;
-        if q.over {
+        let w = drive_quiet(pass, &mut block, number);
+        pass = w.pass;
+        if w.refused {
             number = BLOCKS;
         } else {
             number = number + 1;

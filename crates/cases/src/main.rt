@@ -15,11 +15,6 @@ use limit::drive_to_limit;
 // More blocks than the input has.
 const TURNS: u32 = 100_000;
 
-struct Turn {
-    pass: Pass,
-    over: bool,
-}
-
 // The last line of a pass.
 pub(crate) fn print_last(pass: Pass) {
     let mut line = [0; 128];
@@ -27,44 +22,37 @@ pub(crate) fn print_last(pass: Pass) {
     io::write_all(STDOUT_FILENO, &line[..len]);
 }
 
-// Reads and drives a block. A refused one ends its pass, and the next block begins another.
-fn drive_next(pass: Pass) -> Turn {
-    let mut block = [0; 512];
-    let n = io::read_full(STDIN_FILENO, &mut block);
-    if n == 0 {
-        return Turn { pass, over: true };
-    }
+// Drives a block, and prints its line. A refused one ends its pass, and the next block begins
+// another.
+fn drive_next(pass: Pass, block: &[u8]) -> Pass {
     let mut line = [0; 128];
-    let w = drive_block(pass, &block[..n], &mut line);
+    let w = drive_block(pass, block, &mut line);
     let len = w.len;
     let next = w.pass;
     io::write_all(STDOUT_FILENO, &line[..len]);
     if w.refused {
         print_last(next);
-        Turn {
-            pass: Pass::Empty,
-            over: false,
+        return Pass::Empty;
+    }
+    next
+}
+
+fn drive_passes() {
+    let mut pass = Pass::Empty;
+    let mut turns = TURNS;
+    while turns > 0 {
+        let mut block = [0; 512];
+        let n = io::read_full(STDIN_FILENO, &mut block);
+        if n == 0 {
+            return;
         }
-    } else {
-        Turn {
-            pass: next,
-            over: false,
-        }
+        pass = drive_next(pass, &block[..n]);
+        turns = turns - 1;
     }
 }
 
 fn main() {
     turn_bits();
-    let mut pass = Pass::Empty;
-    let mut turns = TURNS;
-    while turns > 0 {
-        let t = drive_next(pass);
-        pass = t.pass;
-        if t.over {
-            turns = 0;
-        } else {
-            turns = turns - 1;
-        }
-    }
+    drive_passes();
     drive_to_limit();
 }

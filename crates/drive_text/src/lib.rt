@@ -5,7 +5,7 @@ ghost use mathlib.Core.Path.{_≡_};
 ghost use Prim.Native.Nat.{_+_, _-_, _≤_, min};
 ghost use lib.ListN.{length, take, drop};
 ghost use Rattle.io.specs.Counts.{Counts as Within};
-ghost use Rattle.line_text.specs.Text.{totalsText};
+ghost use Rattle.totals_text.specs.Totals.{totalsText};
 ghost use Rattle.drive_pass.specs.Pass.{nextNumber, countsOf};
 ghost use Rattle.drive_text.specs.Written.{isRefused, written, blockText};
 ghost use Rattle.drive_text.specs.Batch.{textOf, batchInto, answerOf, nextOf};
@@ -13,7 +13,7 @@ use drive_blocks::drive;
 use drive_pass::Pass;
 use line_text::Line;
 use line_text::write_line;
-use line_text::write_totals;
+use totals_text::write_totals;
 
 // The pass after a block or several, how many bytes of text they gave, and whether one was refused,
 // which ends the reading.

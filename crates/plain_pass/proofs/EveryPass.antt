@@ -6,15 +6,15 @@ use mathlib.Core.List.{List, [], _∷_, head-eq-of-cons-eq}
 use lib.Dec.{eqb}
 use Rattle.tick_length.specs.TickLength.{isTickLength, tickLengthOf}
 use Rattle.body_controller.specs.declared.BodyController.{BodyController}
-use Rattle.body_controller.specs.declared.FinishInput.{FinishInput}
+use Rattle.call_inputs.specs.declared.FinishInput.{FinishInput}
 use Rattle.body_controller.specs.declared.FinishAnswer.{FinishAnswer}
 use Rattle.body_controller.specs.declared.FinishAnswer.the-variants as Finishes
-use Rattle.body_controller.specs.declared.PlanInput.{PlanInput}
+use Rattle.call_inputs.specs.declared.PlanInput.{PlanInput}
 use Rattle.body_controller.specs.declared.PlanCallAnswer.{PlanCallAnswer}
 use Rattle.body_controller.specs.declared.PlanCallAnswer.the-variants as Plans
 use Rattle.body_controller.specs.declared.SightAnswer.{SightAnswer}
 use Rattle.body_controller.specs.declared.SightAnswer.the-variants as Sights
-use Rattle.body_controller.specs.declared.SteerInput.{SteerInput}
+use Rattle.call_inputs.specs.declared.SteerInput.{SteerInput}
 use Rattle.body_controller.specs.declared.SteerAnswer.{SteerAnswer}
 use Rattle.body_controller.specs.declared.SteerAnswer.the-variants as Steers
 use Rattle.tick_parts.specs.Counts.{noCounts, countList}

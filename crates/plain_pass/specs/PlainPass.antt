@@ -9,9 +9,9 @@ use Rattle.tick_length.specs.TickLength.{isTickLength, secondsOf}
 use Rattle.vision_gate.specs.Outcome.{letterOf}
 use Rattle.vision_gate.specs.Vision.{active}
 use Rattle.tracking.specs.Recovery.{isRecovering}
-use Rattle.body_controller.specs.declared.FinishInput.{FinishInput}
-use Rattle.body_controller.specs.declared.PlanInput.{PlanInput}
-use Rattle.body_controller.specs.declared.SteerInput.{SteerInput}
+use Rattle.call_inputs.specs.declared.FinishInput.{FinishInput}
+use Rattle.call_inputs.specs.declared.PlanInput.{PlanInput}
+use Rattle.call_inputs.specs.declared.SteerInput.{SteerInput}
 use Rattle.tick_parts.specs.Counts.{countList}
 use Rattle.plain_drive.specs.Calls.{Call, sight, plan, steer, finish, Reply, outcome, answer, accepted, refused}
 use Rattle.plain_drive.specs.PlainDrive as Plain

@@ -4,16 +4,16 @@ use Rattle.vision_gate.specs.Outcome.{letterOf}
 use Rattle.vision_gate.specs.Vision.{active}
 use Rattle.tracking.specs.Recovery.{isRecovering}
 use Rattle.body_controller.specs.declared.BodyController.{BodyController}
-use Rattle.body_controller.specs.declared.FinishInput.{FinishInput}
+use Rattle.call_inputs.specs.declared.FinishInput.{FinishInput}
 use Rattle.body_controller.specs.declared.FinishAnswer.{FinishAnswer}
 use Rattle.body_controller.specs.declared.FinishAnswer.the-variants as Finishes
-use Rattle.body_controller.specs.declared.PlanInput.{PlanInput}
+use Rattle.call_inputs.specs.declared.PlanInput.{PlanInput}
 use Rattle.body_controller.specs.declared.PlanCallAnswer.{PlanCallAnswer}
 use Rattle.body_controller.specs.declared.PlanCallAnswer.the-variants as Plans
-use Rattle.body_controller.specs.declared.SightInput.{SightInput}
+use Rattle.call_inputs.specs.declared.SightInput.{SightInput}
 use Rattle.body_controller.specs.declared.SightAnswer.{SightAnswer}
 use Rattle.body_controller.specs.declared.SightAnswer.the-variants as Sights
-use Rattle.body_controller.specs.declared.SteerInput.{SteerInput}
+use Rattle.call_inputs.specs.declared.SteerInput.{SteerInput}
 use Rattle.body_controller.specs.declared.SteerAnswer.{SteerAnswer}
 use Rattle.body_controller.specs.declared.SteerAnswer.the-variants as Steers
 use Rattle.tick_parts.specs.Refusal.{refusalNumber}
@@ -32,7 +32,7 @@ use Rattle.tick_calls.specs.declared.Heading.{Heading}
 -- 'number, letter, V or - for active at its end, N or B (recovering)', and the ending
 unfoldable pub endedBy : BodyController → Heading → Ending → Driven
 endedBy c h ending = record {
-  line = Lines.Tick (record { number = h .number; letter = h .letter; active = active (c .vision .«time_since_vision_update_s»); recovering = isRecovering (c .phase .state); ending = ending });
+  line = Lines.Tick (record { number = h .number; letter = h .letter; active = active (c .context .vision .«time_since_vision_update_s»); recovering = isRecovering (c .context .divergence .state); ending = ending });
   pass = Driving c;
 }
 

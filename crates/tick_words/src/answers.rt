@@ -1,10 +1,15 @@
-// The words of the answers of sight, plan and finish; steer's is one vector.
+// The words of the four answers; word 2 has the number of a refusal.
+use crate::block::refuse;
 use crate::put::mark;
 use crate::put::put_vec3;
 use crate::put::put_vec4;
 use crate::put::put_vec6;
+use body_controller::FinishAnswer;
 use body_controller::Finished;
+use body_controller::PlanCallAnswer;
+use body_controller::SightAnswer;
 use body_controller::Sighted;
+use body_controller::SteerAnswer;
 use ieee754::bits::to_bits;
 use maneuvers::PlanAnswer;
 use tick_parts::Outputs;
@@ -24,7 +29,7 @@ fn outcome(action: GateAction) -> u32 {
     }
 }
 
-pub(crate) fn put_sighted(words: &mut [u32; 96], s: Sighted) {
+fn put_sighted(words: &mut [u32; 96], s: Sighted) {
     let action = s.action;
     let m = s.measurement;
     words[1] = outcome(action);
@@ -35,7 +40,14 @@ pub(crate) fn put_sighted(words: &mut [u32; 96], s: Sighted) {
     put_vec6(words, 12, s.state_prediction);
 }
 
-pub(crate) fn put_plan(words: &mut [u32; 96], answer: PlanAnswer) {
+pub(crate) fn put_sight(words: &mut [u32; 96], answer: SightAnswer) {
+    match answer {
+        SightAnswer::Accepted(s) => put_sighted(words, s),
+        SightAnswer::Refused(r) => refuse(words, r.number()),
+    }
+}
+
+fn put_planned(words: &mut [u32; 96], answer: PlanAnswer) {
     match answer {
         PlanAnswer::Hold => {
             words[18] = 0;
@@ -53,6 +65,25 @@ pub(crate) fn put_plan(words: &mut [u32; 96], answer: PlanAnswer) {
     }
 }
 
+pub(crate) fn put_plan(words: &mut [u32; 96], answer: PlanCallAnswer) {
+    match answer {
+        PlanCallAnswer::Accepted(a) => put_planned(words, a),
+        PlanCallAnswer::Refused(r) => {
+            words[2] = r.number() as u32;
+            words[18] = 4;
+        }
+    }
+}
+
+pub(crate) fn put_steer(words: &mut [u32; 96], answer: SteerAnswer) {
+    match answer {
+        SteerAnswer::Accepted(twist) => put_vec3(words, 25, twist),
+        SteerAnswer::Refused(r) => {
+            words[2] = r.number() as u32;
+        }
+    }
+}
+
 pub(crate) fn put_outputs(words: &mut [u32; 96], o: Outputs) {
     put_vec3(words, 28, o.body_twist_out);
     put_vec3(words, 31, o.body_accel_out);
@@ -61,9 +92,18 @@ pub(crate) fn put_outputs(words: &mut [u32; 96], o: Outputs) {
     put_vec4(words, 41, o.wheel_torque_out);
 }
 
-pub(crate) fn put_finished(words: &mut [u32; 96], f: Finished) {
+fn put_finished(words: &mut [u32; 96], f: Finished) {
     put_outputs(words, f.outputs);
     words[45] = mark(f.vel_clamped);
     words[46] = mark(f.accel_clamped);
     words[47] = mark(f.wheels_disabled);
+}
+
+pub(crate) fn put_finish(words: &mut [u32; 96], answer: FinishAnswer) {
+    match answer {
+        FinishAnswer::Accepted(f) => put_finished(words, f),
+        FinishAnswer::Refused(r) => {
+            words[2] = r.number() as u32;
+        }
+    }
 }

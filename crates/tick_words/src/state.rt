@@ -1,4 +1,5 @@
 // The words of what a tick leaves in the controller.
+ghost use Prim.Native.Nat.{_+_, _<_};
 use crate::answers::put_outputs;
 use crate::put::mark;
 use crate::put::put_vec3;
@@ -10,9 +11,11 @@ use maneuvers::GlobalPosition;
 use maneuvers::HeadingLine;
 use maneuvers::HeldSample;
 use maneuvers::ManeuverCommand;
+use maneuvers::Memory;
 use maneuvers::PrevCommand;
 use tracking::PidMemory;
 use vision_gate::Seeding;
+use vision_gate::Vision;
 use vision_gate::VisionGateState;
 
 fn put_seeding(words: &mut [u32; 96], s: Seeding) {
@@ -55,7 +58,7 @@ fn put_position(words: &mut [u32; 96], p: GlobalPosition) {
     words[75] = to_bits(p.max_angular_acc);
 }
 
-fn put_line(words: &mut [u32; 96], l: HeadingLine) {
+fn put_line_place(words: &mut [u32; 96], l: HeadingLine) {
     words[68] = 3;
     words[69] = to_bits(l.global_theta);
     words[70] = to_bits(l.start_x);
@@ -63,6 +66,9 @@ fn put_line(words: &mut [u32; 96], l: HeadingLine) {
     words[72] = to_bits(l.dir_x);
     words[73] = to_bits(l.dir_y);
     words[74] = to_bits(l.line_velocity);
+}
+
+fn put_line_limits(words: &mut [u32; 96], l: HeadingLine) {
     words[75] = to_bits(l.max_vel_colinear);
     words[76] = to_bits(l.max_vel_perp);
     words[77] = to_bits(l.max_vel_angular);
@@ -70,6 +76,11 @@ fn put_line(words: &mut [u32; 96], l: HeadingLine) {
     words[79] = to_bits(l.max_accel_perp);
     words[80] = to_bits(l.max_accel_angular);
     words[81] = to_bits(l.colinear_start_thresh);
+}
+
+fn put_line(words: &mut [u32; 96], l: HeadingLine) {
+    put_line_place(words, l);
+    put_line_limits(words, l);
 }
 
 // Off and brake are never a previous command: their modes hold.
@@ -94,37 +105,35 @@ fn put_previous(words: &mut [u32; 96], prev: PrevCommand) {
 }
 
 fn put_pid(words: &mut [u32; 96], pid: PidMemory) {
-    let e = pid.prev_error;
-    let i = pid.integrated_error;
-    words[89] = to_bits(e.x);
-    words[90] = to_bits(e.y);
-    words[91] = to_bits(e.z);
-    words[92] = to_bits(i.x);
-    words[93] = to_bits(i.y);
-    words[94] = to_bits(i.z);
+    put_vec3(words, 89, pid.prev_error);
+    put_vec3(words, 92, pid.integrated_error);
+}
+
+fn put_vision(words: &mut [u32; 96], vision: Vision) {
+    words[55] = to_bits(vision.time_since_vision_update_s);
+    let gate = vision.gate;
+    put_gate(words, gate);
+}
+
+fn put_memory(words: &mut [u32; 96], memory: Memory) {
+    let held = memory.held;
+    let prev_cmd = memory.prev_cmd;
+    put_held(words, held);
+    put_previous(words, prev_cmd);
 }
 
 fn put_context(words: &mut [u32; 96], k: ControlContext) {
-    let vision = k.vision;
-    let gate = vision.gate;
-    let memory = k.memory;
-    let held = memory.held;
-    let prev_cmd = memory.prev_cmd;
-    let divergence = k.divergence;
-    let state = divergence.state;
     words[47] = mark(k.wheels_disabled);
-    put_gate(words, gate);
-    words[55] = to_bits(vision.time_since_vision_update_s);
-    words[56] = mark(vision.vision_active());
-    words[57] = mark(state.recovering());
-    put_held(words, held);
-    put_previous(words, prev_cmd);
     words[82] = k.prev_mode;
+    put_vision(words, k.vision);
+    put_memory(words, k.memory);
     put_vec6(words, 83, k.state_estimate);
     put_pid(words, k.pose_pid);
 }
 
 pub(crate) fn put_state(words: &mut [u32; 96], c: BodyController) {
+    words[56] = mark(c.vision_active());
+    words[57] = mark(c.tracking_divergence_recovery_active());
     put_outputs(words, c.outputs());
     put_context(words, c.context());
 }

@@ -1,16 +1,16 @@
--- `tick_words::append` is safe, ends, and leaves the length of what it writes to. Assumes nothing.
+-- `tick_words::put_bytes` is safe, ends, and leaves the length of what it writes to. Assumes nothing.
 use mathlib.Core.Path.{_≡_}
 use Prim.Native.Nat.{_-_, _≤_}
 use borrow.Author.Needs.{needs}
 use lib.ListN.{length}
-use Rattle.tick_words.proofs.append.Statement.{statement}
-use Rattle.tick_words.proofs.append.Tie as tie
+use Rattle.tick_words.proofs.put_bytes.Statement.{statement}
+use Rattle.tick_words.proofs.put_bytes.Tie as tie
 
 abbrev Inv-loop : tie.InvT-loop
-Inv-loop out₀ at words i₀ out i = (i ≤ 384) × (length out ≡ length out₀)
+Inv-loop out₀ words i₀ out i = (i ≤ 384) × (length out ≡ length out₀)
 
 abbrev μ-loop : tie.MeasureT-loop
-μ-loop out₀ at words i₀ out i = 384 - i
+μ-loop out₀ words i₀ out i = 384 - i
 
 loop-holds : tie.Need-loop-holds Inv-loop μ-loop
 loop-holds c = search needs
@@ -23,9 +23,6 @@ element-copy-out-byte-of c = search needs
 
 byte-of-requires : tie.Need-byte-of-requires Inv-loop μ-loop
 byte-of-requires c κs = search needs
-
-add-out : tie.Need-add-out Inv-loop μ-loop
-add-out c = search needs
 
 slice-write-out : tie.Need-slice-write-out Inv-loop μ-loop
 slice-write-out c = search needs
@@ -45,8 +42,8 @@ same-length c = search needs
 returns : tie.Need-returns Inv-loop μ-loop
 returns c = search needs
 
-pub append-spec : {M : Type 1} → statement M
-append-spec =
+pub put-bytes-spec : {M : Type 1} → statement M
+put-bytes-spec =
     tie.close
     (tie.spec
     Inv-loop
@@ -55,7 +52,6 @@ append-spec =
     mul-byte-of
     element-copy-out-byte-of
     byte-of-requires
-    add-out
     slice-write-out
     add-i
     loop-less

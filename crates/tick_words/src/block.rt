@@ -1,0 +1,108 @@
+// A block's words, and the controller after it.
+use crate::calls::run_calls;
+use crate::state::put_state;
+use body_controller::BodyController;
+use body_controller::NewAnswer;
+use tick_block::BlockAnswer;
+use tick_block::TickBlock;
+use tick_block::read;
+
+// Word 1 of a refused block, behind the eight outcomes.
+pub(crate) const REFUSED: u32 = 8;
+
+pub(crate) fn refuse(words: &mut [u32; 96], refusal: u8) {
+    words[1] = REFUSED;
+    words[2] = refusal as u32;
+}
+
+// The refusal 9 or 10, or 0: what the block has beside what is due.
+fn refusal_of(k: u8, due_k: u8, number: u32, due_number: u32) -> u8 {
+    if k != due_k {
+        return 9;
+    }
+    if number != due_number {
+        return 10;
+    }
+    0
+}
+
+// The controller that a pass begins with.
+fn begin(c: BodyController, k: u8, words: &mut [u32; 96]) -> BodyController {
+    let made = BodyController::new(k as u32);
+    match made {
+        NewAnswer::Made(new) => {
+            return new;
+        }
+        NewAnswer::Refused(r) => {
+            refuse(words, r.number());
+            return c;
+        }
+    }
+}
+
+// The controller that drives a block with this k and number. A pass's first block has number 0, and
+// its k makes the controller.
+fn ready(
+    c: BodyController,
+    driving: bool,
+    k: u8,
+    number: u32,
+    words: &mut [u32; 96],
+) -> BodyController {
+    let own = c.tick_length();
+    let mut refusal = refusal_of(k, k, number, 0);
+    if driving {
+        refusal = refusal_of(k, own.k, number, c.ticks());
+    }
+    if refusal != 0 {
+        refuse(words, refusal);
+        return c;
+    }
+    if driving {
+        return c;
+    }
+    begin(c, k, words)
+}
+
+fn take(c: BodyController, driving: bool, b: TickBlock, words: &mut [u32; 96]) -> BodyController {
+    let tick = b.tick;
+    let own = ready(c, driving, tick.k, b.number, words);
+    if words[1] == REFUSED {
+        return own;
+    }
+    run_calls(own, b, words)
+}
+
+fn read_and_take(
+    c: BodyController,
+    driving: bool,
+    block: &[u8],
+    words: &mut [u32; 96],
+) -> BodyController {
+    let answer = read(block);
+    match answer {
+        BlockAnswer::Read(b) => {
+            return take(c, driving, b, words);
+        }
+        BlockAnswer::Refused(r) => {
+            refuse(words, r.number());
+            return c;
+        }
+    }
+}
+
+// A refused block has the number that its tick would have had, and the state that a reset call then
+// leaves. The next block begins another pass.
+pub(crate) fn run_block(
+    c: BodyController,
+    driving: bool,
+    block: &[u8],
+    words: &mut [u32; 96],
+) -> BodyController {
+    let after = read_and_take(c, driving, block, words);
+    if driving & (words[1] == REFUSED) {
+        words[0] = after.ticks();
+        put_state(words, after.reset());
+    }
+    after
+}
