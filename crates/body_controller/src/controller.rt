@@ -2,7 +2,7 @@
 ghost use mathlib.Core.Path.{_≡_};
 ghost use Rattle.tick_length.specs.TickLength.{refusalOf};
 ghost use Rattle.vision_gate.specs.Vision.{active};
-ghost use Rattle.tracking.specs.Recovery.{isRecovering};
+ghost use Rattle.tracking.specs.Divergence.{isRecovering};
 ghost use Rattle.body_controller.specs.Controller.{started, newOf, newNumber, resetOf};
 use crate::BodyController;
 use crate::Choices;

@@ -15,7 +15,7 @@ use tick_parts::Refusal;
 use tracking::ManeuverSetpoints;
 use wheels::friction::friction_twist;
 use wheels::limits::clamp_twist;
-use wheels::limits::stop_scaled;
+use wheels::stop::stop_scaled;
 
 // The tick's setpoints, limited, and the friction twist.
 fn limit(

@@ -12,10 +12,11 @@ use Rattle.vision_gate.specs.Vision.{newVision, active, visionAfter}
 use Rattle.maneuvers.specs.declared.ManeuverCommand.{ManeuverCommand}
 use Rattle.maneuvers.specs.declared.Decision.{Decision}
 use Rattle.maneuvers.specs.Memory.{emptyMemory, trajectoryDropped}
-use Rattle.maneuvers.specs.Plan.{decided, disablesWheels}
+use Rattle.maneuvers.specs.Plan.{decided}
+use Rattle.maneuvers.specs.Answer.{disablesWheels}
 use Rattle.tracking.specs.declared.TrackingDivergenceState.the-variants.{Normal}
 use Rattle.tracking.specs.Setpoints.{emptyPid}
-use Rattle.tracking.specs.Recovery.{isRecovering}
+use Rattle.tracking.specs.Divergence.{isRecovering}
 use Rattle.control_context.specs.declared.ControlContext.{ControlContext}
 use Rattle.control_context.specs.declared.Seen.{Seen}
 use Rattle.control_context.specs.declared.Decided.{Decided}

@@ -2,4 +2,5 @@
 -- Assumes nothing.
 pub mod Command
 pub mod Memory
+pub mod Answer
 pub mod Plan

@@ -49,30 +49,7 @@ decided mode halt recovering vision cmd m prev estimate =
     cond (holds mode halt recovering) hold
     (record { answer = maneuverAnswer (inMode m mode prev) vision cmd estimate; memory = inMode m mode prev; «prev_mode» = mode })
 
--- the number of an answer, in document 01's order: 0 hold, 1 no vision, 2 keep, 3 new plan
-abbrev pub answerNumber : PlanAnswer → ℕ
-answerNumber Hold = 0
-answerNumber NoVision = 1
-answerNumber Keep = 2
-answerNumber (NewPlan seed) = 3
-
 -- the number of plan's answer
 unfoldable pub numberDecided : ℕ → Bool → Bool → Bool → ManeuverCommand → Memory → ℕ → ℕ
 numberDecided mode halt recovering vision cmd m prev =
     cond (holds mode halt recovering) 0 (cond vision (cond (plansAnew (inMode m mode prev) cmd) 3 2) 1)
-
--- ---- what plan's answer asks for
-
--- 'Modes 2 and 3 without active vision disable the wheels'
-abbrev pub disablesWheels : PlanAnswer → Bool
-disablesWheels Hold = false
-disablesWheels NoVision = true
-disablesWheels Keep = false
-disablesWheels (NewPlan seed) = false
-
--- plan answered that a new plan is needed
-abbrev pub needsPlan : PlanAnswer → Bool
-needsPlan Hold = false
-needsPlan NoVision = false
-needsPlan Keep = false
-needsPlan (NewPlan seed) = true

@@ -1,6 +1,7 @@
 // Commands, samples and the tick's one decision over mode, halt, recovery and vision.
 pub mod command; // command.rt: commands, their words and their equality
 pub mod held; // held.rt: the held sample and the previous command
+pub mod answer; // answer.rt: what plan's answer asks for
 pub mod plan; // plan.rt: the decision
 
 use linear::Vector3f;

@@ -1,6 +1,7 @@
 // Plan's answer, and what plan leaves to the next tick.
 ghost use mathlib.Core.Path.{_≡_};
-ghost use Rattle.maneuvers.specs.Plan.{hold, inMode, maneuverAnswer, decided, answerNumber, numberDecided, disablesWheels, needsPlan};
+ghost use Rattle.maneuvers.specs.Plan.{hold, inMode, maneuverAnswer, decided, numberDecided};
+ghost use Rattle.maneuvers.specs.Answer.{answerNumber};
 use crate::Decision;
 use crate::HeldSample;
 use crate::ManeuverCommand;
@@ -86,31 +87,5 @@ pub fn decide(
         }
         // No mode: callers refuse it first, with 4.
         _ => hold(),
-    }
-}
-
-impl PlanAnswer {
-    // Without vision the wheels are disabled.
-    pub fn disables_wheels(self) -> bool
-        ensures { λ r. ⌜ r ≡ disablesWheels self ⌝ }
-    {
-        match self {
-            PlanAnswer::Hold => false,
-            PlanAnswer::NoVision => true,
-            PlanAnswer::Keep => false,
-            PlanAnswer::NewPlan(seed) => false,
-        }
-    }
-
-    // Whether a planner failure counts.
-    pub fn needs_plan(self) -> bool
-        ensures { λ r. ⌜ r ≡ needsPlan self ⌝ }
-    {
-        match self {
-            PlanAnswer::Hold => false,
-            PlanAnswer::NoVision => false,
-            PlanAnswer::Keep => false,
-            PlanAnswer::NewPlan(seed) => true,
-        }
     }
 }

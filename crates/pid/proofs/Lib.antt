@@ -1,4 +1,5 @@
 -- The laws of the PID controller. Assumes nothing.
 pub mod AxisLaws
 pub mod AxesLaws
-pub mod WidthsLaws
+pub mod ThreeLaws
+pub mod FourLaws

@@ -1,4 +1,5 @@
 -- What the contracts of `pid` cite: pid.rs, axis by axis. Assumes nothing.
 pub mod Axis
 pub mod Axes
-pub mod Widths
+pub mod Three
+pub mod Four

@@ -1,6 +1,7 @@
 // pid.rs: a PID controller by value, for one axis, and from it for three and four.
 pub mod axis; // axis.rt: one axis
-pub mod axes; // axes.rt: three and four axes
+pub mod three; // three.rt: three axes
+pub mod four; // four.rt: four axes
 
 use controller_params::PidGains;
 use linear::Vector3f;

@@ -11,7 +11,7 @@ use Rattle.linear.specs.declared.Vector4f.{Vector4f}
 use Rattle.linear.specs.declared.Vector6f.{Vector6f}
 use Rattle.controller_params.specs.Params.{visionClockStartS}
 use Rattle.vision_gate.specs.declared.VisionGateState.the-variants.{Seeding}
-use Rattle.vision_gate.specs.Gate.{freshSeeding}
+use Rattle.vision_gate.specs.Seeding.{freshSeeding}
 use Rattle.maneuvers.specs.declared.ManeuverCommand.{ManeuverCommand}
 use Rattle.maneuvers.specs.declared.CommandAnswer.{CommandAnswer}
 use Rattle.maneuvers.specs.declared.CommandAnswer.the-variants as Command
@@ -21,7 +21,8 @@ use Rattle.tracking.specs.declared.TrackingDivergenceState.{TrackingDivergenceS
 use Rattle.tracking.specs.declared.TrackingDivergenceState.the-variants.{Normal, Recovering}
 use Rattle.tracking.specs.declared.HeldState.{HeldState}
 use Rattle.tracking.specs.declared.RecoveryAnswer.{RecoveryAnswer}
-use Rattle.tracking.specs.Recovery.{isRecovering, trackingErrorExceeded, atRest, recovery}
+use Rattle.tracking.specs.Divergence.{isRecovering}
+use Rattle.tracking.specs.Recovery.{trackingErrorExceeded, atRest, recovery}
 use Rattle.call_inputs.specs.declared.SightInput.{SightInput}
 use Rattle.call_inputs.specs.declared.PlanInput.{PlanInput}
 use Rattle.call_inputs.specs.declared.SteerInput.{SteerInput}

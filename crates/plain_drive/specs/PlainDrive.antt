@@ -13,7 +13,8 @@ use Rattle.tick_length.specs.TickLength.{secondsOf}
 use Rattle.vision_gate.specs.declared.VisionGateState.{VisionGateState}
 use Rattle.vision_gate.specs.declared.VisionGateState.the-variants.{Seeding}
 use Rattle.vision_gate.specs.Outcome.{takes, overwrites, numberOf}
-use Rattle.vision_gate.specs.Gate.{freshSeeding, judged}
+use Rattle.vision_gate.specs.Seeding.{freshSeeding}
+use Rattle.vision_gate.specs.Gate.{judged}
 use Rattle.vision_gate.specs.Vision.{active, clockAfter}
 use Rattle.maneuvers.specs.declared.ManeuverCommand.{ManeuverCommand}
 use Rattle.maneuvers.specs.declared.CommandAnswer.{CommandAnswer}
@@ -31,7 +32,8 @@ use Rattle.tracking.specs.declared.TrackingDivergenceState.the-variants.{Normal
 use Rattle.tracking.specs.declared.HeldState.{HeldState}
 use Rattle.tracking.specs.declared.HeldState.the-variants as States
 use Rattle.tracking.specs.declared.RecoveryAnswer.{RecoveryAnswer}
-use Rattle.tracking.specs.Recovery.{isRecovering, recovery}
+use Rattle.tracking.specs.Divergence.{isRecovering}
+use Rattle.tracking.specs.Recovery.{recovery}
 use Rattle.call_inputs.specs.declared.SightInput.{SightInput}
 use Rattle.call_inputs.specs.declared.PlanInput.{PlanInput}
 use Rattle.call_inputs.specs.declared.SteerInput.{SteerInput}

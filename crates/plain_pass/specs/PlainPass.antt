@@ -8,7 +8,7 @@ use lib.Dec.{eqb}
 use Rattle.tick_length.specs.TickLength.{isTickLength, secondsOf}
 use Rattle.vision_gate.specs.Outcome.{letterOf}
 use Rattle.vision_gate.specs.Vision.{active}
-use Rattle.tracking.specs.Recovery.{isRecovering}
+use Rattle.tracking.specs.Divergence.{isRecovering}
 use Rattle.call_inputs.specs.declared.FinishInput.{FinishInput}
 use Rattle.call_inputs.specs.declared.PlanInput.{PlanInput}
 use Rattle.call_inputs.specs.declared.SteerInput.{SteerInput}

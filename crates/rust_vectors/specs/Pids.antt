@@ -16,7 +16,8 @@ use Rattle.pid.specs.declared.PidController4.{PidController4}
 use Rattle.pid.specs.declared.PidAnswer3.{PidAnswer3}
 use Rattle.pid.specs.declared.PidAnswer4.{PidAnswer4}
 use Rattle.pid.specs.Axis.{newController, calculated, calculatedWithDerivative, resetOf}
-use Rattle.pid.specs.Widths.{calculated3, calculated4, calculatedWithDerivative3, calculatedWithDerivative4, reset3, reset4}
+use Rattle.pid.specs.Three.{calculated3, calculatedWithDerivative3, reset3}
+use Rattle.pid.specs.Four.{calculated4, calculatedWithDerivative4, reset4}
 use Rattle.block_words.specs.Word.{wordAt}
 use Rattle.block_floats.specs.Floats.{floatAt, vector3At, vector4At}
 use Rattle.rust_vectors.specs.declared.subject.Subject.{Subject}

@@ -2,7 +2,7 @@
 -- Assumes nothing.
 use Rattle.vision_gate.specs.Outcome.{letterOf}
 use Rattle.vision_gate.specs.Vision.{active}
-use Rattle.tracking.specs.Recovery.{isRecovering}
+use Rattle.tracking.specs.Divergence.{isRecovering}
 use Rattle.body_controller.specs.declared.BodyController.{BodyController}
 use Rattle.call_inputs.specs.declared.FinishInput.{FinishInput}
 use Rattle.body_controller.specs.declared.FinishAnswer.{FinishAnswer}

@@ -1,5 +1,4 @@
 -- The tracking error and recovery, document 01, 'Steer'. Assumes nothing.
-use Prim.Native.Nat.{ℕ}
 use mathlib.Core.Bool.{Bool, true, false, cond, _&&_, _||_}
 use lib.Ieee.{Float, binary32, lt}
 use Rattle.ieee754.specs.Magnitude.{magnitude}
@@ -15,16 +14,6 @@ use Rattle.tracking.specs.declared.HeldState.{HeldState}
 use Rattle.tracking.specs.declared.HeldState.the-variants.{Absent, Held}
 use Rattle.tracking.specs.declared.RecoveryAnswer.{RecoveryAnswer}
 use Rattle.planar.specs.Planar.{hypotXY}
-
--- 'Steer': recovering, a term of document 01, or Normal
-abbrev pub isRecovering : TrackingDivergenceState → Bool
-isRecovering Normal = false
-isRecovering Recovering = true
-
--- 'Cases': N or B (recovering), in ASCII
-abbrev pub divergenceLetter : TrackingDivergenceState → ℕ
-divergenceLetter Normal = 78
-divergenceLetter Recovering = 66
 
 -- 'Steer': the errors of a sample's state beside the estimate, in the order of their limits; the headings' is wrapped
 unfoldable pub trackingErrors : Vector6f → Vector6f → TrackingErrors

@@ -11,7 +11,7 @@ use Rattle.pid.specs.declared.AntiJitterThresh.the-variants.{Below}
 use Rattle.pid.specs.declared.OutputLimits.the-variants.{Absent}
 use Rattle.pid.specs.declared.PidController.{PidController}
 use Rattle.pid.specs.declared.PidController3.{PidController3}
-use Rattle.pid.specs.Widths.{calculatedWithDerivative3}
+use Rattle.pid.specs.Three.{calculatedWithDerivative3}
 use Rattle.tracking.specs.declared.ManeuverSetpoints.{ManeuverSetpoints}
 use Rattle.tracking.specs.declared.PidMemory.{PidMemory}
 use Rattle.tracking.specs.declared.TrackingAnswer.{TrackingAnswer}

@@ -1,6 +1,7 @@
 // Document 01, 'Steer', each sentence a function: control_context.rs from the trajectory's sample
 // to the setpoints, and recovery.
 pub mod setpoints; // setpoints.rt: calc_tracking_setpoints
+pub mod divergence; // divergence.rt: Normal or recovering
 pub mod recovery; // recovery.rt: the tracking error and what recovery makes of it
 
 use linear::Vector3f;

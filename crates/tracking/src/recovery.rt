@@ -1,7 +1,7 @@
 // Trajectory-divergence recovery: a large tracking error turns Normal to Recovering, and wheels
 // at rest end that with a reset.
 ghost use mathlib.Core.Path.{_≡_};
-ghost use Rattle.tracking.specs.Recovery.{isRecovering, divergenceLetter, trackingErrors, anyExceeds, trackingErrorExceeded, atRest, recovery};
+ghost use Rattle.tracking.specs.Recovery.{trackingErrors, anyExceeds, trackingErrorExceeded, atRest, recovery};
 use crate::HeldState;
 use crate::RecoveryAnswer;
 use crate::TrackingDivergenceState;
@@ -13,28 +13,6 @@ use ieee754::remainder::remainder;
 use linear::Vector4f;
 use linear::Vector6f;
 use planar::hypot_xy;
-
-impl TrackingDivergenceState {
-    // `tracking_divergence_recovery_active`.
-    pub fn recovering(self) -> bool
-        ensures { λ r. ⌜ r ≡ isRecovering self ⌝ }
-    {
-        match self {
-            TrackingDivergenceState::Normal => false,
-            TrackingDivergenceState::Recovering => true,
-        }
-    }
-
-    // Document 01's N, or B for recovering.
-    pub fn letter(self) -> u8
-        ensures { λ r. ⌜ r ≡ divergenceLetter self ⌝ }
-    {
-        match self {
-            TrackingDivergenceState::Normal => b'N',
-            TrackingDivergenceState::Recovering => b'B',
-        }
-    }
-}
 
 // How far a sample's state and the estimate are apart.
 fn tracking_errors(traj_state: Vector6f, estimate: Vector6f) -> TrackingErrors

@@ -14,7 +14,8 @@ use Rattle.vision_gate.specs.declared.GateAction.the-variants.{Accumulat
 use Rattle.vision_gate.specs.declared.VisionGateState.{VisionGateState}
 use Rattle.vision_gate.specs.declared.VisionGateState.the-variants.{Seeding, Tracking}
 use Rattle.vision_gate.specs.declared.Judgement.{Judgement}
-use Rattle.vision_gate.specs.Gate.{freshSeeding, gathered, deviation, steady, seedingJudged, distance, radius, trackingJudged, sightingJudged, quiet, judged}
+use Rattle.vision_gate.specs.Seeding.{freshSeeding, gathered, deviation, steady}
+use Rattle.vision_gate.specs.Gate.{seedingJudged, distance, radius, trackingJudged, sightingJudged, quiet, judged}
 use Rattle.vision_gate.specs.Vision.{active}
 use Rattle.vision_gate.specs.Since.{clockSince}
 use Rattle.vision_gate.proofs.Clock.{since-taken}

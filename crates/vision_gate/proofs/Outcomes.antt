@@ -19,7 +19,8 @@ use Rattle.vision_gate.specs.declared.VisionGateState.the-variants as Ga
 use Rattle.vision_gate.specs.declared.GateAction.the-variants.{Accumulate, SeedComplete, SeedReset, Accept, AcceptJump, FirstReject, Reject}
 use Rattle.vision_gate.specs.declared.Judgement.{Judgement}
 use Rattle.vision_gate.specs.Outcome.{takes}
-use Rattle.vision_gate.specs.Gate.{freshSeeding, gathered, deviationX, deviationY, steady, seedingJudged, distance, radius, trackingJudged, sightingJudged, quiet, judged}
+use Rattle.vision_gate.specs.Seeding.{freshSeeding, gathered, deviationX, deviationY, steady}
+use Rattle.vision_gate.specs.Gate.{seedingJudged, distance, radius, trackingJudged, sightingJudged, quiet, judged}
 
 -- ---- tracking
 

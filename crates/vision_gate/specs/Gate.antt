@@ -1,53 +1,20 @@
 -- Document 01, 'Gate': seeding, tracking, and a tick without a sighting. Every step is rounded to binary32. Assumes nothing.
-use Prim.Native.Nat.{_+_, _%_, _^_}
-use mathlib.Core.Bool.{Bool, cond, _&&_}
+use mathlib.Core.Bool.{Bool, cond}
 use lib.Dec.{ltb}
-use lib.IntN.{pos}
-use lib.Ieee.{Float, binary32, ofInt, add, sub, mul, div, lt, le, eq}
-use Rattle.ieee754.specs.Root.{squareRoot}
+use lib.Ieee.{Float, binary32, add, sub, mul, lt, le, eq}
 use Rattle.ieee754.specs.Hypot.{hypotenuse}
 use Rattle.linear.specs.declared.Vector3f.{Vector3f}
 use Rattle.linear.specs.declared.Vector6f.{Vector6f}
-use Rattle.linear.specs.Vector.{zeroFloat, zeros2}
-use Rattle.controller_params.specs.Params.{visionSeedSamples, visionSeedPosStdThreshM, visionGateBaseRadiusM, visionGateExpandRateMPerS}
+use Rattle.linear.specs.Vector.{zeroFloat}
+use Rattle.controller_params.specs.Params.{visionSeedSamples, visionGateBaseRadiusM, visionGateExpandRateMPerS}
 use Rattle.vision_gate.specs.declared.Seeding.{Seeding}
 use Rattle.vision_gate.specs.declared.VisionGateState.{VisionGateState}
 use Rattle.vision_gate.specs.declared.VisionGateState.the-variants as Gate
 use Rattle.vision_gate.specs.declared.GateAction.the-variants.{NoVision, Accumulate, SeedComplete, SeedReset, Accept, AcceptJump, FirstReject, Reject}
 use Rattle.vision_gate.specs.declared.Judgement.{Judgement}
+use Rattle.vision_gate.specs.Seeding.{freshSeeding, gathered, steady}
 
 -- ---- 'Seeding'
-
--- a fresh seeding
-unfoldable pub freshSeeding : Seeding
-freshSeeding = record { n = 0; «pos_sum» = zeros2; «pos_sq_sum» = zeros2 }
-
--- 'n and four sums grow': x and y, and their squares
-unfoldable pub gathered : Seeding → Vector3f → Seeding
-gathered s v = record {
-  n = (s .n + 1) % 2 ^ 32;
-  «pos_sum» = record { x = add binary32 (s .«pos_sum» .x) (v .x); y = add binary32 (s .«pos_sum» .y) (v .y) };
-  «pos_sq_sum» = record {
-    x = add binary32 (s .«pos_sq_sum» .x) (mul binary32 (v .x) (v .x));
-    y = add binary32 (s .«pos_sq_sum» .y) (mul binary32 (v .y) (v .y));
-  };
-}
-
--- the deviation of n samples: the root of the mean square less the mean's square. A variance below zero has the root NaN.
-unfoldable pub deviation : Float → Float → Float → Float
-deviation sum squares n =
-    let mean = div binary32 sum n in
-    squareRoot binary32 (sub binary32 (div binary32 squares n) (mul binary32 mean mean))
-
-abbrev pub deviationX : Seeding → Float
-deviationX s = deviation (s .«pos_sum» .x) (s .«pos_sq_sum» .x) (ofInt binary32 (pos (s .n)))
-
-abbrev pub deviationY : Seeding → Float
-deviationY s = deviation (s .«pos_sum» .y) (s .«pos_sq_sum» .y) (ofInt binary32 (pos (s .n)))
-
--- 'both deviations are strictly below 0.03'; a NaN is below nothing
-unfoldable pub steady : Seeding → Bool
-steady s = lt (deviationX s) visionSeedPosStdThreshM && lt (deviationY s) visionSeedPosStdThreshM
 
 -- 'Below the 20th: G. At it, C if both deviations are strictly below 0.03, else S and a fresh seeding.' 'C starts tracking at 0.0.'
 unfoldable pub seedingJudged : Seeding → Judgement

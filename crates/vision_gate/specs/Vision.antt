@@ -9,7 +9,8 @@ use Rattle.vision_gate.specs.declared.VisionGateState.the-variants as Ga
 use Rattle.vision_gate.specs.declared.Vision.{Vision}
 use Rattle.vision_gate.specs.declared.VisionAnswer.{VisionAnswer}
 use Rattle.vision_gate.specs.Outcome.{takes}
-use Rattle.vision_gate.specs.Gate.{freshSeeding, judged}
+use Rattle.vision_gate.specs.Seeding.{freshSeeding}
+use Rattle.vision_gate.specs.Gate.{judged}
 
 -- 'Active: <= 0.5', of the vision clock
 unfoldable pub active : Float → Bool

@@ -1,143 +1,37 @@
 // The gate: what becomes of a sighting.
 ghost use mathlib.Core.Path.{_≡_};
-ghost use Rattle.vision_gate.specs.Outcome.{letterOf, takes, overwrites};
-ghost use Rattle.vision_gate.specs.Gate.{freshSeeding, gathered, deviation, steady, seedingJudged, distance, radius, trackingJudged, sightingJudged, quiet, judged};
+ghost use Rattle.vision_gate.specs.Gate.{seedingJudged, distance, radius, trackingJudged, sightingJudged, quiet, judged};
 use crate::GateAction;
 use crate::Judgement;
 use crate::Seeding;
 use crate::VisionGateState;
 use controller_params::VISION_GATE_BASE_RADIUS_M;
 use controller_params::VISION_GATE_EXPAND_RATE_M_PER_S;
-use controller_params::VISION_SEED_POS_STD_THRESH_M;
 use controller_params::VISION_SEED_SAMPLES;
 use ieee754::hypot::hypot;
-use ieee754::root::sqrt;
-use linear::Vector2f;
 use linear::Vector3f;
 use linear::Vector6f;
 
-impl GateAction {
-    // Document 01's letter.
-    pub fn letter(self) -> u8
-        ensures { λ r. ⌜ r ≡ letterOf self ⌝ }
-    {
-        match self {
-            GateAction::NoVision => b'Q',
-            GateAction::Accumulate => b'G',
-            GateAction::SeedComplete => b'C',
-            GateAction::SeedReset => b'S',
-            GateAction::Accept => b'T',
-            GateAction::AcceptJump => b'J',
-            GateAction::FirstReject => b'F',
-            GateAction::Reject => b'R',
-        }
-    }
-
-    // Whether the sighting is taken.
-    pub fn takes(self) -> bool
-        ensures { λ r. ⌜ r ≡ takes self ⌝ }
-    {
-        match self {
-            GateAction::NoVision => false,
-            GateAction::Accumulate => false,
-            GateAction::SeedComplete => true,
-            GateAction::SeedReset => false,
-            GateAction::Accept => true,
-            GateAction::AcceptJump => true,
-            GateAction::FirstReject => false,
-            GateAction::Reject => false,
-        }
-    }
-
-    // Whether the prediction is overwritten, and trajectory, previous command and PID memory dropped.
-    pub fn overwrites(self) -> bool
-        ensures { λ r. ⌜ r ≡ overwrites self ⌝ }
-    {
-        match self {
-            GateAction::NoVision => false,
-            GateAction::Accumulate => false,
-            GateAction::SeedComplete => true,
-            GateAction::SeedReset => false,
-            GateAction::Accept => false,
-            GateAction::AcceptJump => true,
-            GateAction::FirstReject => false,
-            GateAction::Reject => false,
-        }
-    }
-}
-
-// The deviation of n samples: Variance = E[x²] - (E[x])², which rounding can take below zero.
-fn deviation_of(sum: f32, sq_sum: f32, nf: f32) -> f32
-    ensures { λ r. ⌜ r ≡ deviation sum «sq_sum» nf ⌝ }
+// What becomes of a seeding that has just gathered a sighting.
+fn judge_seeding(s: Seeding) -> Judgement
+    ensures { λ r. ⌜ r ≡ seedingJudged s ⌝ }
 {
-    let mean = sum / nf;
-    sqrt(sq_sum / nf - mean * mean)
-}
-
-impl Seeding {
-    // A seeding that has seen nothing, the Rust's default.
-    pub fn fresh() -> Seeding
-        ensures { λ r. ⌜ r ≡ freshSeeding ⌝ }
-    {
-        Seeding {
-            n: 0,
-            pos_sum: Vector2f::zeros(),
-            pos_sq_sum: Vector2f::zeros(),
-        }
-    }
-
-    // One sighting more.
-    fn gather(self, sighting: Vector3f) -> Seeding
-        ensures { λ r. ⌜ r ≡ gathered self sighting ⌝ }
-    {
-        let x = sighting.x;
-        let y = sighting.y;
-        let sum = Vector2f {
-            x: self.pos_sum.x + x,
-            y: self.pos_sum.y + y,
-        };
-        let sq_sum = Vector2f {
-            x: self.pos_sq_sum.x + x * x,
-            y: self.pos_sq_sum.y + y * y,
-        };
-        Seeding {
-            n: std::num::wrapping_add_u32(self.n, 1),
-            pos_sum: sum,
-            pos_sq_sum: sq_sum,
-        }
-    }
-
-    // Whether both deviations are small; a NaN is not.
-    fn is_steady(self) -> bool
-        ensures { λ r. ⌜ r ≡ steady self ⌝ }
-    {
-        let nf = std::num::nearest_u32_to_f32(self.n);
-        let x = deviation_of(self.pos_sum.x, self.pos_sq_sum.x, nf);
-        let y = deviation_of(self.pos_sum.y, self.pos_sq_sum.y, nf);
-        (x < VISION_SEED_POS_STD_THRESH_M) & (y < VISION_SEED_POS_STD_THRESH_M)
-    }
-
-    // What becomes of a seeding that has just gathered a sighting.
-    fn judge(self) -> Judgement
-        ensures { λ r. ⌜ r ≡ seedingJudged self ⌝ }
-    {
-        if self.n >= VISION_SEED_SAMPLES {
-            if self.is_steady() {
-                Judgement {
-                    action: GateAction::SeedComplete,
-                    gate: VisionGateState::Tracking(0.0),
-                }
-            } else {
-                Judgement {
-                    action: GateAction::SeedReset,
-                    gate: VisionGateState::Seeding(Seeding::fresh()),
-                }
+    if s.n >= VISION_SEED_SAMPLES {
+        if s.is_steady() {
+            Judgement {
+                action: GateAction::SeedComplete,
+                gate: VisionGateState::Tracking(0.0),
             }
         } else {
             Judgement {
-                action: GateAction::Accumulate,
-                gate: VisionGateState::Seeding(self),
+                action: GateAction::SeedReset,
+                gate: VisionGateState::Seeding(Seeding::fresh()),
             }
+        }
+    } else {
+        Judgement {
+            action: GateAction::Accumulate,
+            gate: VisionGateState::Seeding(s),
         }
     }
 }
@@ -195,7 +89,7 @@ impl VisionGateState {
         ensures { λ r. ⌜ r ≡ sightingJudged self sighting predicted dt ⌝ }
     {
         match self {
-            VisionGateState::Seeding(s) => s.gather(sighting).judge(),
+            VisionGateState::Seeding(s) => judge_seeding(s.gather(sighting)),
             VisionGateState::Tracking(t) => judge_tracking(
                 t,
                 distance_from(sighting, predicted),

@@ -1,4 +1,6 @@
 // The gate of `update_state_estimate`: which sightings are taken, how long ago one was, and what a sighting does to the prediction.
+pub mod action;
+pub mod seeding;
 pub mod gate;
 pub mod prediction;
 pub mod update;

@@ -1,6 +1,7 @@
 // Document 01, 'Steer' and 'Finish', each sentence a function: body_controller.rs from the setpoints
 // to the wheels.
-pub mod limits; // limits.rt: stop, and the clamps of twist and acceleration
+pub mod stop; // stop.rt: the stop state's speed
+pub mod limits; // limits.rt: the clamps of twist and acceleration
 pub mod friction; // friction.rt: the friction twist, local and gated
 pub mod outputs; // outputs.rt: from the friction force to wheel speeds and torques
 

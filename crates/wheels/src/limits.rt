@@ -1,36 +1,13 @@
-// What body_controller.rs does to setpoints: the stop state's speed, and the two clamps.
+// The two clamps of body_controller.rs.
 ghost use mathlib.Core.Path.{_≡_};
-ghost use Rattle.wheels.specs.Limits.{stopScaled, clampedTo, twistClamped, accelClamped};
+ghost use Rattle.wheels.specs.Limits.{clampedTo, twistClamped, accelClamped};
 use crate::Clamped;
 use controller_params::BODY_ACCEL_CLAMP_ANGULAR;
 use controller_params::BODY_ACCEL_CLAMP_LINEAR;
 use controller_params::BODY_VEL_CLAMP_ANGULAR;
 use controller_params::BODY_VEL_CLAMP_LINEAR;
-use controller_params::STOP_STATE_LINEAR_SPEED_LIMIT;
 use ieee754::clamp::clamp_within;
 use linear::Vector3f;
-use planar::norm_xy;
-
-// In the stop state the linear speed is scaled down to its limit; the angular one stays.
-pub fn stop_scaled(stop: bool, twist: Vector3f) -> Vector3f
-    ensures { λ r. ⌜ r ≡ stopScaled stop twist ⌝ }
-{
-    if stop {
-        let linear_speed = norm_xy(twist);
-        if linear_speed > STOP_STATE_LINEAR_SPEED_LIMIT {
-            let scale = STOP_STATE_LINEAR_SPEED_LIMIT / linear_speed;
-            Vector3f {
-                x: twist.x * scale,
-                y: twist.y * scale,
-                z: twist.z,
-            }
-        } else {
-            twist
-        }
-    } else {
-        twist
-    }
-}
 
 // NaN stays, and is marked: it is not equal to itself.
 fn clamp_to(linear: f32, angular: f32, v: Vector3f) -> Clamped

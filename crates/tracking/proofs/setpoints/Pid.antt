@@ -5,7 +5,7 @@ use Rattle.controller_params.specs.Params.{linearPosePidGains, angularPosePidGa
 use Rattle.pid.specs.declared.AntiJitterThresh.the-variants.{Below}
 use Rattle.pid.specs.declared.OutputLimits.the-variants.{Absent}
 use Rattle.pid.specs.Axis.{newController, resetOf}
-use Rattle.pid.specs.Widths.{reset3}
+use Rattle.pid.specs.Three.{reset3}
 use Rattle.tracking.specs.declared.PidMemory.{PidMemory}
 use Rattle.tracking.specs.Setpoints.{emptyPid, poseAxis, posePid, pidMemory}
 

@@ -7,7 +7,8 @@ use Rattle.linear.specs.declared.Vector6f.{Vector6f}
 use Rattle.maneuvers.specs.declared.ManeuverCommand.{ManeuverCommand}
 use Rattle.maneuvers.specs.declared.Memory.{Memory}
 use Rattle.maneuvers.specs.declared.PlanAnswer.the-variants.{Keep, NewPlan}
-use Rattle.maneuvers.specs.Plan.{hold, plansAnew, seedOf, maneuverAnswer, decided, answerNumber, numberDecided}
+use Rattle.maneuvers.specs.Plan.{hold, plansAnew, seedOf, maneuverAnswer, decided, numberDecided}
+use Rattle.maneuvers.specs.Answer.{answerNumber}
 use Rattle.maneuvers.proofs.plan.decide.Statement.{statement}
 use Rattle.maneuvers.proofs.plan.decide.Tie as tie
 

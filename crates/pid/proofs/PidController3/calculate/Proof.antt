@@ -1,6 +1,6 @@
 -- `pid::PidController3::calculate` meets its contract. Assumes nothing.
 use borrow.Author.Needs.{needs}
-use Rattle.pid.specs.Widths.{calculated3}
+use Rattle.pid.specs.Three.{calculated3}
 use Rattle.pid.proofs.PidController3.calculate.Statement.{statement}
 use Rattle.pid.proofs.PidController3.calculate.Tie as tie
 

@@ -1,6 +1,6 @@
 -- `pid::PidController3::calculate_with_derivative` meets its contract. Assumes nothing.
 use borrow.Author.Needs.{needs}
-use Rattle.pid.specs.Widths.{calculatedWithDerivative3}
+use Rattle.pid.specs.Three.{calculatedWithDerivative3}
 use Rattle.pid.proofs.PidController3.calculate_with_derivative.Statement.{statement}
 use Rattle.pid.proofs.PidController3.calculate_with_derivative.Tie as tie
 

@@ -1,6 +1,6 @@
 -- `pid::PidController3::reset` meets its contract. Assumes nothing.
 use borrow.Author.Needs.{needs}
-use Rattle.pid.specs.Widths.{reset3}
+use Rattle.pid.specs.Three.{reset3}
 use Rattle.pid.proofs.PidController3.reset.Statement.{statement}
 use Rattle.pid.proofs.PidController3.reset.Tie as tie
 

@@ -1,6 +1,6 @@
 -- `pid::PidController4::calculate` meets its contract. Assumes nothing.
 use borrow.Author.Needs.{needs}
-use Rattle.pid.specs.Widths.{calculated4}
+use Rattle.pid.specs.Four.{calculated4}
 use Rattle.pid.proofs.PidController4.calculate.Statement.{statement}
 use Rattle.pid.proofs.PidController4.calculate.Tie as tie
 

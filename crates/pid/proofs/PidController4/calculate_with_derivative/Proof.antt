@@ -1,6 +1,6 @@
 -- `pid::PidController4::calculate_with_derivative` meets its contract. Assumes nothing.
 use borrow.Author.Needs.{needs}
-use Rattle.pid.specs.Widths.{calculatedWithDerivative4}
+use Rattle.pid.specs.Four.{calculatedWithDerivative4}
 use Rattle.pid.proofs.PidController4.calculate_with_derivative.Statement.{statement}
 use Rattle.pid.proofs.PidController4.calculate_with_derivative.Tie as tie
 

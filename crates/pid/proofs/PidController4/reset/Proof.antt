@@ -1,6 +1,6 @@
 -- `pid::PidController4::reset` meets its contract. Assumes nothing.
 use borrow.Author.Needs.{needs}
-use Rattle.pid.specs.Widths.{reset4}
+use Rattle.pid.specs.Four.{reset4}
 use Rattle.pid.proofs.PidController4.reset.Statement.{statement}
 use Rattle.pid.proofs.PidController4.reset.Tie as tie
 

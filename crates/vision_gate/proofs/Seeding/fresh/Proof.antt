@@ -1,6 +1,6 @@
 -- `vision_gate::Seeding::fresh` meets its contract. Assumes nothing.
 use borrow.Author.Needs.{needs}
-use Rattle.vision_gate.specs.Gate.{freshSeeding}
+use Rattle.vision_gate.specs.Seeding.{freshSeeding}
 use Rattle.vision_gate.proofs.Seeding.fresh.Statement.{statement}
 use Rattle.vision_gate.proofs.Seeding.fresh.Tie as tie
 

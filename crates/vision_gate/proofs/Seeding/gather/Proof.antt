@@ -1,6 +1,6 @@
 -- `vision_gate::Seeding::gather` meets its contract. Assumes nothing.
 use borrow.Author.Needs.{needs}
-use Rattle.vision_gate.specs.Gate.{gathered}
+use Rattle.vision_gate.specs.Seeding.{gathered}
 use Rattle.vision_gate.proofs.Seeding.gather.Statement.{statement}
 use Rattle.vision_gate.proofs.Seeding.gather.Tie as tie
 

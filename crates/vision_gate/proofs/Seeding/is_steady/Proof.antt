@@ -1,6 +1,6 @@
 -- `vision_gate::Seeding::is_steady` meets its contract. Assumes nothing.
 use borrow.Author.Needs.{needs}
-use Rattle.vision_gate.specs.Gate.{steady}
+use Rattle.vision_gate.specs.Seeding.{steady}
 use Rattle.vision_gate.proofs.Seeding.is_steady.Statement.{statement}
 use Rattle.vision_gate.proofs.Seeding.is_steady.Tie as tie
 

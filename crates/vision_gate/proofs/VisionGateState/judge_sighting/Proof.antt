@@ -10,8 +10,8 @@ enum-known-self c = search needs
 gather-requires : tie.Need-gather-requires
 gather-requires c κs = search needs
 
-judge-requires : tie.Need-judge-requires
-judge-requires c κs = search needs
+judge-seeding-requires : tie.Need-judge-seeding-requires
+judge-seeding-requires c κs = search needs
 
 enum-known-self-2 : tie.Need-enum-known-self-2
 enum-known-self-2 c = search needs
@@ -24,7 +24,7 @@ judge-tracking-requires c κs = search needs
 
 returns : tie.Need-returns
 unfolding sightingJudged
-returns c = rw (c .before .before .before .self .given .1, ← c .before .gather .ensures) (c .judge .ensures)
+returns c = rw (c .before .before .before .self .given .1, ← c .before .gather .ensures) (c .judge-seeding .ensures)
 
 returns-2 : tie.Need-returns-2
 unfolding sightingJudged
@@ -36,7 +36,7 @@ judge-sighting-spec =
     (tie.spec
     enum-known-self
     gather-requires
-    judge-requires
+    judge-seeding-requires
     enum-known-self-2
     distance-from-requires
     judge-tracking-requires

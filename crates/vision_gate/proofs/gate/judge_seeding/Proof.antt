@@ -1,9 +1,9 @@
--- `vision_gate::Seeding::judge` meets its contract, branch by branch. Assumes nothing.
+-- `vision_gate::gate::judge_seeding` meets its contract, branch by branch. Assumes nothing.
 use borrow.Author.Needs.{needs}
 use borrow.Author.Tests.{le-ltb, lt-ltb}
 use Rattle.vision_gate.specs.Gate.{seedingJudged}
-use Rattle.vision_gate.proofs.Seeding.judge.Statement.{statement}
-use Rattle.vision_gate.proofs.Seeding.judge.Tie as tie
+use Rattle.vision_gate.proofs.gate.judge_seeding.Statement.{statement}
+use Rattle.vision_gate.proofs.gate.judge_seeding.Tie as tie
 
 is-steady-requires : tie.Need-is-steady-requires
 is-steady-requires c κs = search needs
@@ -23,5 +23,5 @@ returns-3 : tie.Need-returns-3
 unfolding seedingJudged
 returns-3 c = rw (lt-ltb _ _ (c .if1 .left))
 
-pub judge-spec : {M : Type 1} → statement M
-judge-spec = tie.close (tie.spec is-steady-requires fresh-requires returns returns-2 returns-3)
+pub judge-seeding-spec : {M : Type 1} → statement M
+judge-seeding-spec = tie.close (tie.spec is-steady-requires fresh-requires returns returns-2 returns-3)

@@ -1,8 +1,8 @@
--- `vision_gate::gate::deviation_of` meets its contract. Assumes nothing.
+-- `vision_gate::seeding::deviation_of` meets its contract. Assumes nothing.
 use borrow.Author.Needs.{needs}
-use Rattle.vision_gate.specs.Gate.{deviation}
-use Rattle.vision_gate.proofs.gate.deviation_of.Statement.{statement}
-use Rattle.vision_gate.proofs.gate.deviation_of.Tie as tie
+use Rattle.vision_gate.specs.Seeding.{deviation}
+use Rattle.vision_gate.proofs.seeding.deviation_of.Statement.{statement}
+use Rattle.vision_gate.proofs.seeding.deviation_of.Tie as tie
 
 sqrt-requires : tie.Need-sqrt-requires
 sqrt-requires c κs = search needs

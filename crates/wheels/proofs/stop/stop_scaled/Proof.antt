@@ -1,8 +1,8 @@
--- `wheels::limits::stop_scaled` meets its contract. Assumes nothing.
+-- `wheels::stop::stop_scaled` meets its contract. Assumes nothing.
 use borrow.Author.Needs.{needs}
-use Rattle.wheels.specs.Limits.{stopScaled}
-use Rattle.wheels.proofs.limits.stop_scaled.Statement.{statement}
-use Rattle.wheels.proofs.limits.stop_scaled.Tie as tie
+use Rattle.wheels.specs.Stop.{stopScaled}
+use Rattle.wheels.proofs.stop.stop_scaled.Statement.{statement}
+use Rattle.wheels.proofs.stop.stop_scaled.Tie as tie
 
 norm-xy-requires : tie.Need-norm-xy-requires
 norm-xy-requires c κs = search needs

@@ -1,0 +1,30 @@
+// What plan's answer asks for.
+ghost use mathlib.Core.Path.{_≡_};
+ghost use Rattle.maneuvers.specs.Answer.{disablesWheels, needsPlan};
+use crate::PlanAnswer;
+
+impl PlanAnswer {
+    // Without vision the wheels are disabled.
+    pub fn disables_wheels(self) -> bool
+        ensures { λ r. ⌜ r ≡ disablesWheels self ⌝ }
+    {
+        match self {
+            PlanAnswer::Hold => false,
+            PlanAnswer::NoVision => true,
+            PlanAnswer::Keep => false,
+            PlanAnswer::NewPlan(seed) => false,
+        }
+    }
+
+    // Whether a planner failure counts.
+    pub fn needs_plan(self) -> bool
+        ensures { λ r. ⌜ r ≡ needsPlan self ⌝ }
+    {
+        match self {
+            PlanAnswer::Hold => false,
+            PlanAnswer::NoVision => false,
+            PlanAnswer::Keep => false,
+            PlanAnswer::NewPlan(seed) => true,
+        }
+    }
+}
