@@ -4,8 +4,8 @@ use Prim.Native.Nat.{ℕ}
 use mathlib.Core.Bool.{Bool, true, _&&_}
 use lib.Dec.{T, eqb}
 use lib.Ieee.{Float, binary32, ofBits, toBits, ofInt, add, sub, mul, div, neg, lt, size, round}
-use Rattle.ieee754.specs.Magnitude.{magnitude}
-use Rattle.ieee754.specs.Clamp.{clampBetween}
+use Rattle.float_bits.specs.Magnitude.{magnitude}
+use Rattle.float_clamp.specs.Clamp.{clampBetween}
 use Rattle.linear.specs.Vector.{zeroFloat}
 use Rattle.tick_length.specs.TickLength.{isTickLength, secondsOf}
 use Rattle.tick_length.proofs.Sweep.{everyTo, at-tick-length}

@@ -11,7 +11,7 @@ use Rattle.pid.specs.declared.PidController.{PidController}
 use Rattle.pid.specs.declared.AntiJitterThresh.the-variants.{Below}
 use Rattle.pid.specs.declared.OutputLimits.the-variants.{Between}
 use Rattle.pid.specs.Axis.{newController}
-use Rattle.pid.specs.Four.{calculated4, reset4}
+use Rattle.pid_four.specs.Four.{calculated4, reset4}
 use Rattle.active_brake.specs.declared.ActiveBrakeController.{ActiveBrakeController}
 use Rattle.active_brake.specs.declared.BrakeMade.{BrakeMade}
 use Rattle.active_brake.specs.declared.BrakeMade.the-variants.{Made, Refused}

@@ -9,7 +9,7 @@ use linear::Vector4f;
 use pid::AntiJitterThresh;
 use pid::OutputLimits;
 use pid::PidController;
-use pid::PidController4;
+use pid_four::PidController4;
 use tick_length::TickLength;
 use tick_length::TickLengthAnswer;
 

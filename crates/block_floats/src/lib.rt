@@ -2,7 +2,7 @@
 ghost use mathlib.Core.Path.{_≡_};
 ghost use Rattle.block_floats.specs.Floats.{floatAt, vector2At, vector3At, vector4At};
 use block_words::word_at;
-use ieee754::bits::from_bits;
+use float_bits::from_bits;
 use linear::Vector2f;
 use linear::Vector3f;
 use linear::Vector4f;

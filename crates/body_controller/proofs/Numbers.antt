@@ -5,10 +5,10 @@ use mathlib.Core.Bool.{Bool, true, false, cond}
 use native.Mathlib.Omega.{arith}
 use borrow.Author.Tests.{eqb-true, eqb-false, le-ltb}
 use lib.Dec.{eqb}
-use Rattle.maneuvers.specs.declared.CommandAnswer.{CommandAnswer}
-use Rattle.maneuvers.specs.declared.CommandAnswer.the-variants as Command
-use Rattle.maneuvers.specs.declared.CommandWords.{CommandWords}
-use Rattle.maneuvers.specs.Command.{isMode, commandFrom, refusalNumber}
+use Rattle.commands.specs.declared.CommandAnswer.{CommandAnswer}
+use Rattle.commands.specs.declared.CommandAnswer.the-variants as Command
+use Rattle.commands.specs.declared.CommandWords.{CommandWords}
+use Rattle.commands.specs.Command.{isMode, commandFrom, refusalNumber}
 use Rattle.body_controller.specs.declared.BodyController.{BodyController}
 use Rattle.call_inputs.specs.declared.PlanInput.{PlanInput}
 use Rattle.body_controller.specs.declared.PlanResult.{PlanResult}

@@ -6,8 +6,8 @@ use Rattle.linear.specs.Vector.{zeros3, zeros6}
 use Rattle.tick_length.specs.declared.TickLengthAnswer.{TickLengthAnswer}
 use Rattle.tick_length.specs.declared.TickLengthAnswer.the-variants as Length
 use Rattle.tick_length.specs.TickLength.{tickLengthOf}
-use Rattle.maneuvers.specs.declared.ManeuverCommand.the-variants.{Off}
-use Rattle.maneuvers.specs.declared.PlanAnswer.the-variants.{Hold}
+use Rattle.commands.specs.declared.ManeuverCommand.the-variants.{Off}
+use Rattle.plan_answer.specs.declared.PlanAnswer.the-variants.{Hold}
 use Rattle.control_context.specs.declared.ControlContext.{ControlContext}
 use Rattle.control_context.specs.declared.Planned.{Planned}
 use Rattle.control_context.specs.Context.{newContext}

@@ -1,10 +1,10 @@
 -- Plan, document 01, 'The tick's four calls' and 'When a call is turned away'. Assumes nothing.
 use Prim.Native.Nat.{ℕ}
 use mathlib.Core.Bool.{cond}
-use Rattle.maneuvers.specs.declared.ManeuverCommand.{ManeuverCommand}
-use Rattle.maneuvers.specs.declared.CommandAnswer.{CommandAnswer}
-use Rattle.maneuvers.specs.declared.CommandAnswer.the-variants as Command
-use Rattle.maneuvers.specs.Command.{isMode, commandFrom}
+use Rattle.commands.specs.declared.ManeuverCommand.{ManeuverCommand}
+use Rattle.commands.specs.declared.CommandAnswer.{CommandAnswer}
+use Rattle.commands.specs.declared.CommandAnswer.the-variants as Command
+use Rattle.commands.specs.Command.{isMode, commandFrom}
 use Rattle.control_context.specs.declared.Decided.{Decided}
 use Rattle.control_context.specs.Context.{decidedOn}
 use Rattle.body_controller.specs.declared.BodyController.{BodyController}

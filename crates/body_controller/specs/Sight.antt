@@ -3,9 +3,9 @@ use Prim.Native.Nat.{ℕ, _+_, _%_, _^_}
 use mathlib.Core.Bool.{cond}
 use lib.Dec.{ltb}
 use Rattle.tick_length.specs.TickLength.{secondsOf}
-use Rattle.vision_gate.specs.declared.GateAction.{GateAction}
-use Rattle.vision_gate.specs.Outcome.{takes, overwrites}
-use Rattle.vision_gate.specs.Prediction.{predictedAfter}
+use Rattle.gate_action.specs.declared.GateAction.{GateAction}
+use Rattle.gate_action.specs.Outcome.{takes, overwrites}
+use Rattle.prediction.specs.Prediction.{predictedAfter}
 use Rattle.control_context.specs.declared.Seen.{Seen}
 use Rattle.control_context.specs.Context.{seen}
 use Rattle.body_controller.specs.declared.BodyController.{BodyController}

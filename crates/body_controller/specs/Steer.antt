@@ -4,11 +4,11 @@ use mathlib.Core.Bool.{Bool, cond, _&&_}
 use lib.Ieee.{Float}
 use Rattle.linear.specs.declared.Vector6f.{Vector6f}
 use Rattle.tick_length.specs.TickLength.{secondsOf}
-use Rattle.maneuvers.specs.Answer.{needsPlan}
+use Rattle.plan_answer.specs.Answer.{needsPlan}
 use Rattle.tracking.specs.declared.ManeuverSetpoints.{ManeuverSetpoints}
-use Rattle.wheels.specs.Stop.{stopScaled}
-use Rattle.wheels.specs.Limits.{twistClamped}
-use Rattle.wheels.specs.Friction.{frictionTwist}
+use Rattle.stop.specs.Stop.{stopScaled}
+use Rattle.limits.specs.Limits.{twistClamped}
+use Rattle.friction.specs.Friction.{frictionTwist}
 use Rattle.control_context.specs.declared.Tracked.{Tracked}
 use Rattle.control_context.specs.Context as Context
 use Rattle.control_context.specs.Steer as Context'

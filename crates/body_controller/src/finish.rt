@@ -3,15 +3,15 @@ ghost use mathlib.Core.Path.{_≡_};
 ghost use Rattle.body_controller.specs.Finish.{finishedBy, finishOf, finishNumber, finishRefusal};
 use crate::BodyController;
 use crate::FinishAnswer;
-use call_inputs::FinishInput;
 use crate::FinishResult;
 use crate::Finished;
 use crate::Steered;
 use crate::controller::FINISH;
 use crate::controller::SIGHT;
+use call_inputs::FinishInput;
 use tick_parts::Outputs;
 use tick_parts::Refusal;
-use wheels::outputs::finish_outputs;
+use wheels::finish_outputs;
 
 // The outputs that steer's setpoints give, and the marks.
 fn finish_by(s: Steered, i: FinishInput, wheels_disabled: bool) -> Finished

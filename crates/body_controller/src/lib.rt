@@ -8,15 +8,15 @@ pub mod steer; // steer.rt: tracking and recovery
 
 use control_context::ControlContext;
 use control_context::Planned;
+use gate_action::GateAction;
 use linear::Vector3f;
 use linear::Vector4f;
 use linear::Vector6f;
-use maneuvers::PlanAnswer;
+use plan_answer::PlanAnswer;
 use tick_length::TickLength;
 use tick_parts::Counts;
 use tick_parts::Outputs;
 use tick_parts::Refusal;
-use vision_gate::GateAction;
 
 // What is chosen once, at the start.
 pub struct Choices {

@@ -3,14 +3,14 @@ ghost use mathlib.Core.Path.{_≡_};
 ghost use Rattle.body_controller.specs.Plan.{planned, planRefused, planOf, planNumber, planRefusal};
 use crate::BodyController;
 use crate::PlanCallAnswer;
-use call_inputs::PlanInput;
 use crate::PlanResult;
 use crate::controller::PLAN;
 use crate::controller::SIGHT;
 use crate::controller::STEER;
+use call_inputs::PlanInput;
+use commands::CommandAnswer;
+use commands::ManeuverCommand;
 use control_context::Planned;
-use maneuvers::CommandAnswer;
-use maneuvers::ManeuverCommand;
 use tick_parts::Refusal;
 
 impl BodyController {

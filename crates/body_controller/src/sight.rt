@@ -4,14 +4,14 @@ ghost use Rattle.body_controller.specs.Sight.{sightAnswer, sighted, sigh
 use crate::BodyController;
 use crate::Measurement;
 use crate::SightAnswer;
-use call_inputs::SightInput;
 use crate::SightResult;
 use crate::Sighted;
 use crate::controller::PLAN;
 use crate::controller::SIGHT;
+use call_inputs::SightInput;
+use gate_action::GateAction;
+use prediction::predict_after;
 use tick_parts::Refusal;
-use vision_gate::GateAction;
-use vision_gate::prediction::predict_after;
 
 // Ticks that a controller can count.
 pub const TICK_LIMIT: u32 = 16_777_216;

@@ -4,18 +4,18 @@ ghost use Rattle.body_controller.specs.Steer.{limited, steered, plannerF
 use crate::BodyController;
 use crate::Limited;
 use crate::SteerAnswer;
-use call_inputs::SteerInput;
 use crate::SteerResult;
 use crate::Steered;
 use crate::controller::FINISH;
 use crate::controller::SIGHT;
 use crate::controller::STEER;
+use call_inputs::SteerInput;
+use friction::friction_twist;
+use limits::clamp_twist;
 use linear::Vector6f;
+use stop::stop_scaled;
 use tick_parts::Refusal;
 use tracking::ManeuverSetpoints;
-use wheels::friction::friction_twist;
-use wheels::limits::clamp_twist;
-use wheels::stop::stop_scaled;
 
 // The tick's setpoints, limited, and the friction twist.
 fn limit(

@@ -1,12 +1,12 @@
 // What the tick's four calls take. Types alone, so that who reads them from a block needs no controller.
-use linear::Matrix3;
-use linear::Matrix3x4;
-use linear::Matrix4x3;
+use commands::CommandWords;
 use linear::Vector3f;
 use linear::Vector4f;
 use linear::Vector6f;
-use maneuvers::CommandWords;
-use maneuvers::Sample;
+use matrices::Matrix3;
+use matrices::Matrix3x4;
+use matrices::Matrix4x3;
+use plan_memory::Sample;
 
 pub struct SightInput {
     pub vision_pose_meas: Vector3f,

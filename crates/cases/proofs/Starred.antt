@@ -4,9 +4,9 @@ use mathlib.Core.Path.{_≡_, refl}
 use mathlib.Core.Bool.{Bool, true, false, _&&_}
 use borrow.Author.Tests.{eqb-true}
 use lib.Dec.{T, eqb}
-use Rattle.ieee754.proofs.root.Cases as Root
-use Rattle.ieee754.proofs.remainder.Cases as Remainder
-use Rattle.ieee754.proofs.hypot.Cases as Hypot
+use Rattle.float_root.proofs.Cases as Root
+use Rattle.float_remainder.proofs.Cases as Remainder
+use Rattle.float_hypot.proofs.Cases as Hypot
 use Rattle.tick_length.specs.TickLength.{isTickLength, tickLengthOf}
 use Rattle.tick_length.proofs.Cases as Length
 use Rattle.active_brake.specs.Brake.{brakeOf}
@@ -14,7 +14,7 @@ use Rattle.active_brake.proofs.Cases as Brake
 use Rattle.first_order_lag.specs.FirstOrderLag.{lagOf}
 use Rattle.first_order_lag.proofs.Cases as Lag
 use Rattle.vision_gate.proofs.Cases as Gate
-use Rattle.wheels.proofs.limits.Cases as Limits
+use Rattle.limits.proofs.Cases as Limits
 use Rattle.body_controller.specs.Controller.{newOf}
 use Rattle.cases.specs.Starred.{float, currentBits, NumberFor, Starred}
 

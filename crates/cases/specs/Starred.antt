@@ -3,9 +3,9 @@ use Prim.Native.Nat.{ℕ}
 use mathlib.Core.Path.{_≡_}
 use mathlib.Core.Bool.{Bool, true, false}
 use lib.Ieee.{Float, nan, binary32, ofBits, toBits}
-use Rattle.ieee754.specs.Root.{squareRoot}
-use Rattle.ieee754.specs.Remainder.{remainderBy, tau}
-use Rattle.ieee754.specs.Hypot.{hypotenuse}
+use Rattle.float_root.specs.Root.{squareRoot}
+use Rattle.float_remainder.specs.Remainder.{remainderBy, tau}
+use Rattle.float_hypot.specs.Hypot.{hypotenuse}
 use Rattle.linear.specs.declared.Vector3f.{Vector3f}
 use Rattle.linear.specs.Vector.{zeroFloat}
 use Rattle.tick_length.specs.TickLength.{isTickLength, secondsOf, microsOf}
@@ -14,7 +14,7 @@ use Rattle.active_brake.specs.Brake as Brake
 use Rattle.first_order_lag.specs.FirstOrderLag as Lag
 use Rattle.vision_gate.specs.Vision.{active}
 use Rattle.vision_gate.specs.Since.{clockSince}
-use Rattle.wheels.specs.Limits.{twistClamped}
+use Rattle.limits.specs.Limits.{twistClamped}
 use Rattle.body_controller.specs.Controller.{newOf, newNumber}
 
 -- the float with these bits

@@ -4,19 +4,19 @@ use mathlib.Core.Bool.{Bool, true, false, cond, _||_}
 use lib.Ieee.{Float}
 use Rattle.linear.specs.declared.Vector3f.{Vector3f}
 use Rattle.linear.specs.declared.Vector6f.{Vector6f}
-use Rattle.vision_gate.specs.declared.GateAction.{GateAction}
+use Rattle.gate_action.specs.declared.GateAction.{GateAction}
 use Rattle.vision_gate.specs.declared.Vision.{Vision}
 use Rattle.vision_gate.specs.declared.VisionAnswer.{VisionAnswer}
-use Rattle.vision_gate.specs.Outcome.{overwrites}
+use Rattle.gate_action.specs.Outcome.{overwrites}
 use Rattle.vision_gate.specs.Vision.{newVision, active, visionAfter}
-use Rattle.maneuvers.specs.declared.ManeuverCommand.{ManeuverCommand}
+use Rattle.commands.specs.declared.ManeuverCommand.{ManeuverCommand}
 use Rattle.maneuvers.specs.declared.Decision.{Decision}
-use Rattle.maneuvers.specs.Memory.{emptyMemory, trajectoryDropped}
+use Rattle.plan_memory.specs.Memory.{emptyMemory, trajectoryDropped}
 use Rattle.maneuvers.specs.Plan.{decided}
-use Rattle.maneuvers.specs.Answer.{disablesWheels}
-use Rattle.tracking.specs.declared.TrackingDivergenceState.the-variants.{Normal}
+use Rattle.plan_answer.specs.Answer.{disablesWheels}
+use Rattle.divergence.specs.declared.TrackingDivergenceState.the-variants.{Normal}
 use Rattle.tracking.specs.Setpoints.{emptyPid}
-use Rattle.tracking.specs.Divergence.{isRecovering}
+use Rattle.divergence.specs.Divergence.{isRecovering}
 use Rattle.control_context.specs.declared.ControlContext.{ControlContext}
 use Rattle.control_context.specs.declared.Seen.{Seen}
 use Rattle.control_context.specs.declared.Decided.{Decided}

@@ -2,18 +2,18 @@
 use mathlib.Core.Bool.{cond}
 use lib.Ieee.{Float}
 use Rattle.linear.specs.declared.Vector4f.{Vector4f}
-use Rattle.maneuvers.specs.declared.ManeuverCommand.{ManeuverCommand}
-use Rattle.maneuvers.specs.declared.Sample.{Sample}
-use Rattle.maneuvers.specs.declared.HeldSample.{HeldSample}
-use Rattle.maneuvers.specs.declared.HeldSample.the-variants as Samples
-use Rattle.maneuvers.specs.declared.PlanAnswer.{PlanAnswer}
-use Rattle.maneuvers.specs.declared.PlanAnswer.the-variants.{Hold, NoVision, Keep, NewPlan}
-use Rattle.maneuvers.specs.Memory.{afterTracking, heldOr}
-use Rattle.tracking.specs.declared.HeldState.{HeldState}
-use Rattle.tracking.specs.declared.HeldState.the-variants as States
-use Rattle.tracking.specs.declared.RecoveryAnswer.{RecoveryAnswer}
+use Rattle.commands.specs.declared.ManeuverCommand.{ManeuverCommand}
+use Rattle.plan_memory.specs.declared.Sample.{Sample}
+use Rattle.plan_memory.specs.declared.HeldSample.{HeldSample}
+use Rattle.plan_memory.specs.declared.HeldSample.the-variants as Samples
+use Rattle.plan_answer.specs.declared.PlanAnswer.{PlanAnswer}
+use Rattle.plan_answer.specs.declared.PlanAnswer.the-variants.{Hold, NoVision, Keep, NewPlan}
+use Rattle.plan_memory.specs.Memory.{afterTracking, heldOr}
+use Rattle.recovery.specs.declared.HeldState.{HeldState}
+use Rattle.recovery.specs.declared.HeldState.the-variants as States
+use Rattle.recovery.specs.declared.RecoveryAnswer.{RecoveryAnswer}
 use Rattle.tracking.specs.Setpoints.{zeroSetpoints, trackingSetpoints}
-use Rattle.tracking.specs.Recovery.{recovery}
+use Rattle.recovery.specs.Recovery.{recovery}
 use Rattle.control_context.specs.declared.ControlContext.{ControlContext}
 use Rattle.control_context.specs.declared.Planned.{Planned}
 use Rattle.control_context.specs.declared.Tracked.{Tracked}

@@ -5,13 +5,13 @@ use crate::ControlContext;
 use crate::Decided;
 use crate::Divergence;
 use crate::Seen;
+use commands::ManeuverCommand;
+use divergence::TrackingDivergenceState;
 use linear::Vector3f;
 use linear::Vector6f;
-use maneuvers::ManeuverCommand;
-use maneuvers::Memory;
-use maneuvers::plan::decide;
+use maneuvers::decide;
+use plan_memory::Memory;
 use tracking::PidMemory;
-use tracking::TrackingDivergenceState;
 use vision_gate::Vision;
 
 impl ControlContext {

@@ -3,14 +3,14 @@
 pub mod context; // context.rt: a new context, sight, plan, a reset
 pub mod steer; // steer.rt: tracking and recovery
 
+use commands::ManeuverCommand;
+use divergence::TrackingDivergenceState;
+use gate_action::GateAction;
 use linear::Vector6f;
-use maneuvers::ManeuverCommand;
-use maneuvers::Memory;
-use maneuvers::PlanAnswer;
+use plan_answer::PlanAnswer;
+use plan_memory::Memory;
 use tracking::ManeuverSetpoints;
 use tracking::PidMemory;
-use tracking::TrackingDivergenceState;
-use vision_gate::GateAction;
 use vision_gate::Vision;
 
 // `tracking_divergence_state`, in a struct of its own, as a field that is an enum can't be set.

@@ -5,16 +5,16 @@ use crate::ControlContext;
 use crate::Divergence;
 use crate::Planned;
 use crate::Tracked;
+use commands::ManeuverCommand;
 use linear::Vector4f;
-use maneuvers::HeldSample;
-use maneuvers::ManeuverCommand;
-use maneuvers::Memory;
-use maneuvers::PlanAnswer;
-use maneuvers::Sample;
-use tracking::HeldState;
+use plan_answer::PlanAnswer;
+use plan_memory::HeldSample;
+use plan_memory::Memory;
+use plan_memory::Sample;
+use recovery::HeldState;
+use recovery::update_tracking_divergence_recovery;
 use tracking::ManeuverSetpoints;
-use tracking::recovery::update_tracking_divergence_recovery;
-use tracking::setpoints::calc_tracking_setpoints;
+use tracking::calc_tracking_setpoints;
 
 fn held_state(held: HeldSample) -> HeldState
     ensures { λ r. ⌜ r ≡ heldState held ⌝ }

@@ -1,16 +1,16 @@
 // The root, the remainder and the hypotenuse of `ieee754` under plain names, for Rust or C to link.
 ghost use mathlib.Core.Path.{_≡_};
 ghost use lib.Ieee.{binary32};
-ghost use Rattle.ieee754.specs.Root.{squareRoot};
-ghost use Rattle.ieee754.specs.Remainder.{remainderBy, tau};
-ghost use Rattle.ieee754.specs.Hypot.{hypotenuse};
+ghost use Rattle.float_root.specs.Root.{squareRoot};
+ghost use Rattle.float_remainder.specs.Remainder.{remainderBy, tau};
+ghost use Rattle.float_hypot.specs.Hypot.{hypotenuse};
 
 // sqrtf(x).
 #[no_mangle]
 pub extern "C" fn ieee754_sqrt(x: f32) -> f32
     ensures { λ r. ⌜ r ≡ squareRoot binary32 x ⌝ }
 {
-    ieee754::root::sqrt(x)
+    float_root::sqrt(x)
 }
 
 // remainderf(x, 2.0 * PI).
@@ -18,7 +18,7 @@ pub extern "C" fn ieee754_sqrt(x: f32) -> f32
 pub extern "C" fn ieee754_remainder(x: f32) -> f32
     ensures { λ r. ⌜ r ≡ remainderBy binary32 x tau ⌝ }
 {
-    ieee754::remainder::remainder(x)
+    float_remainder::remainder(x)
 }
 
 // hypotf(x, y), by document 01's stand-in.
@@ -26,5 +26,5 @@ pub extern "C" fn ieee754_remainder(x: f32) -> f32
 pub extern "C" fn ieee754_hypot(x: f32, y: f32) -> f32
     ensures { λ r. ⌜ r ≡ hypotenuse x y ⌝ }
 {
-    ieee754::hypot::hypot(x, y)
+    float_hypot::hypot(x, y)
 }

@@ -1,8 +1,8 @@
 -- What each operation answers to an argument, both by their bits. Assumes nothing.
 use Prim.Native.Nat.{ℕ}
 use lib.Ieee.{binary32, add, sub, toBits, ofBits}
-use Rattle.ieee754.specs.Root.{squareRoot}
-use Rattle.ieee754.specs.Remainder.{remainderBy, tau}
+use Rattle.float_root.specs.Root.{squareRoot}
+use Rattle.float_remainder.specs.Remainder.{remainderBy, tau}
 use Rattle.float_vectors.specs.declared.answer.Operation.{Operation}
 use Rattle.float_vectors.specs.declared.answer.Operation.the-variants.{Root, Remainder, Word, Twice, Difference}
 

@@ -1,10 +1,10 @@
 // What is computed of an argument, each list its own operation. Arguments and answers are bits.
 ghost use mathlib.Core.Path.{_≡_};
 ghost use Rattle.float_vectors.specs.Answer.{answerOf};
-use ieee754::bits::from_bits;
-use ieee754::bits::to_bits;
-use ieee754::remainder::remainder;
-use ieee754::root::sqrt;
+use float_bits::from_bits;
+use float_bits::to_bits;
+use float_remainder::remainder;
+use float_root::sqrt;
 
 pub enum Operation {
     Root,

@@ -2,7 +2,7 @@
 -- Assumes nothing.
 use Prim.Native.Nat.{ℕ, zero, suc}
 use lib.Ieee.{Float, binary32, ofBits, add, sub, mul, div}
-use Rattle.ieee754.specs.Magnitude.{magnitude}
+use Rattle.float_bits.specs.Magnitude.{magnitude}
 use Rattle.lag_axis.specs.declared.Axis.{Axis}
 
 -- 1.0

@@ -1,7 +1,7 @@
 // `FirstOrderLag` of lib-stm32's model/mod.rs on one axis.
 ghost use mathlib.Core.Path.{_≡_};
 ghost use Rattle.lag_axis.specs.Axis.{oneOverT, axisStep, axisInvert, lagTurn, iterated};
-use ieee754::bits::abs;
+use float_bits::abs;
 
 // An axis has a gain, a slope and a state of its own; the rest is every axis's.
 pub struct Axis {

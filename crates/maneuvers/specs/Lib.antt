@@ -1,6 +1,3 @@
 -- What the contracts of `maneuvers` cite: document 01, 'Records' and 'The tick's four calls', Plan. Definitions only; the laws about them stand in proofs/.
 -- Assumes nothing.
-pub mod Command
-pub mod Memory
-pub mod Answer
 pub mod Plan

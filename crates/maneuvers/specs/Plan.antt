@@ -3,15 +3,15 @@ use Prim.Native.Nat.{ℕ}
 use mathlib.Core.Bool.{Bool, true, false, cond, not, _||_}
 use lib.Dec.{eqb, ltb}
 use Rattle.linear.specs.declared.Vector6f.{Vector6f}
-use Rattle.maneuvers.specs.declared.ManeuverCommand.{ManeuverCommand}
-use Rattle.maneuvers.specs.declared.HeldSample.{HeldSample}
-use Rattle.maneuvers.specs.declared.HeldSample.the-variants.{Absent, Held}
-use Rattle.maneuvers.specs.declared.Memory.{Memory}
-use Rattle.maneuvers.specs.declared.PlanAnswer.{PlanAnswer}
-use Rattle.maneuvers.specs.declared.PlanAnswer.the-variants.{Hold, NoVision, Keep, NewPlan}
+use Rattle.commands.specs.declared.ManeuverCommand.{ManeuverCommand}
+use Rattle.plan_memory.specs.declared.HeldSample.{HeldSample}
+use Rattle.plan_memory.specs.declared.HeldSample.the-variants.{Absent, Held}
+use Rattle.plan_memory.specs.declared.Memory.{Memory}
+use Rattle.plan_answer.specs.declared.PlanAnswer.{PlanAnswer}
+use Rattle.plan_answer.specs.declared.PlanAnswer.the-variants.{Hold, NoVision, Keep, NewPlan}
 use Rattle.maneuvers.specs.declared.Decision.{Decision}
-use Rattle.maneuvers.specs.Command.{isMode}
-use Rattle.maneuvers.specs.Memory.{emptyMemory, commandChanged}
+use Rattle.commands.specs.Command.{isMode}
+use Rattle.plan_memory.specs.Memory.{emptyMemory, commandChanged}
 
 -- hold if halt, recovering, or mode 0 or 1. A number that is no mode holds too, so that there is an answer: callers refuse it first, with 4
 abbrev pub holds : ℕ → Bool → Bool → Bool

@@ -1,99 +1,97 @@
-// Commands, samples and the tick's one decision over mode, halt, recovery and vision.
-pub mod command; // command.rt: commands, their words and their equality
-pub mod held; // held.rt: the held sample and the previous command
-pub mod answer; // answer.rt: what plan's answer asks for
-pub mod plan; // plan.rt: the decision
-
-use linear::Vector3f;
+// The tick's one decision over mode, halt, recovery and vision.
+ghost use mathlib.Core.Path.{_≡_};
+ghost use Rattle.maneuvers.specs.Plan.{hold, inMode, maneuverAnswer, decided, numberDecided};
+ghost use Rattle.plan_answer.specs.Answer.{answerNumber};
+use commands::ManeuverCommand;
 use linear::Vector6f;
-
-pub struct GlobalPosition {
-    pub target_pose: Vector3f,
-    pub max_linear_vel: f32,
-    pub max_angular_vel: f32,
-    pub max_linear_acc: f32,
-    pub max_angular_acc: f32,
-}
-
-pub struct HeadingLine {
-    pub global_theta: f32,
-    pub start_x: f32,
-    pub start_y: f32,
-    pub dir_x: f32,
-    pub dir_y: f32,
-    pub line_velocity: f32,
-    pub max_vel_colinear: f32,
-    pub max_vel_perp: f32,
-    pub max_vel_angular: f32,
-    pub max_accel_colinear: f32,
-    pub max_accel_perp: f32,
-    pub max_accel_angular: f32,
-    pub colinear_start_thresh: f32,
-}
-
-pub enum ManeuverCommand {
-    Off,
-    Brake,
-    GlobalPosition(GlobalPosition),
-    HeadingLine(HeadingLine),
-}
-
-// A block's command words, 24-36, as floats.
-pub struct CommandWords {
-    pub w0: f32,
-    pub w1: f32,
-    pub w2: f32,
-    pub w3: f32,
-    pub w4: f32,
-    pub w5: f32,
-    pub w6: f32,
-    pub w7: f32,
-    pub w8: f32,
-    pub w9: f32,
-    pub w10: f32,
-    pub w11: f32,
-    pub w12: f32,
-}
-
-// A command, or document 01's refusal 4: the mode is not from 0 to 3.
-pub enum CommandAnswer {
-    Given(ManeuverCommand),
-    Refused,
-}
-
-// A sample, a term of document 01: what a trajectory gives for one tick.
-pub struct Sample {
-    pub state: Vector6f,
-    pub accel: Vector3f,
-}
-
-// The Rust's `trajectory`, of which the tick sees one sample.
-pub enum HeldSample {
-    Absent,
-    Held(Sample),
-}
-
-pub enum PrevCommand {
-    Absent,
-    Was(ManeuverCommand),
-}
-
-pub struct Memory {
-    pub held: HeldSample,
-    pub prev_cmd: PrevCommand,
-}
-
-// Plan's four answers, terms of document 01. A new plan has its seed.
-pub enum PlanAnswer {
-    Hold,
-    NoVision,
-    Keep,
-    NewPlan(Vector6f),
-}
+use plan_answer::PlanAnswer;
+use plan_memory::HeldSample;
+use plan_memory::Memory;
 
 // An answer, beside the memory and the previous mode that plan leaves.
 pub struct Decision {
     pub answer: PlanAnswer,
     pub memory: Memory,
     pub prev_mode: u32,
+}
+
+fn hold() -> Decision
+    ensures { λ r. ⌜ r ≡ hold ⌝ }
+{
+    Decision {
+        answer: PlanAnswer::Hold,
+        memory: Memory::empty(),
+        prev_mode: 0,
+    }
+}
+
+// A changed mode drops trajectory and previous command.
+fn in_mode(memory: Memory, mode: u32, prev_mode: u32) -> Memory
+    ensures { λ r. ⌜ r ≡ inMode memory mode «prev_mode» ⌝ }
+{
+    if mode == prev_mode {
+        memory
+    } else {
+        Memory::empty()
+    }
+}
+
+// What modes 2 and 3 answer.
+fn maneuver_answer(
+    memory: Memory,
+    vision_active: bool,
+    cmd: ManeuverCommand,
+    estimate: Vector6f,
+) -> PlanAnswer
+    ensures { λ r. ⌜ r ≡ maneuverAnswer memory «vision_active» cmd estimate ⌝ }
+{
+    if vision_active {
+        let held = memory.held;
+        let prev_cmd = memory.prev_cmd;
+        match held {
+            HeldSample::Absent => PlanAnswer::NewPlan(estimate),
+            HeldSample::Held(sample) => {
+                let state = sample.state;
+                if prev_cmd.command_changed(cmd) {
+                    PlanAnswer::NewPlan(state)
+                } else {
+                    PlanAnswer::Keep
+                }
+            }
+        }
+    } else {
+        PlanAnswer::NoVision
+    }
+}
+
+// The one decision over mode, halt, recovery and vision.
+pub fn decide(
+    mode: u32,
+    halt: bool,
+    recovering: bool,
+    vision_active: bool,
+    cmd: ManeuverCommand,
+    memory: Memory,
+    prev_mode: u32,
+    estimate: Vector6f,
+) -> Decision
+    ensures { λ r. ⌜ r ≡ decided mode halt recovering «vision_active» cmd memory «prev_mode» estimate ⌝ }
+    ensures { λ r. ⌜ answerNumber (r .answer) ≡ numberDecided mode halt recovering «vision_active» cmd memory «prev_mode» ⌝ }
+{
+    if halt | recovering {
+        return hold();
+    }
+    match mode {
+        0..=1 => hold(),
+        2..=3 => {
+            let memory = in_mode(memory, mode, prev_mode);
+            Decision {
+                answer: maneuver_answer(memory, vision_active, cmd, estimate),
+                memory,
+                prev_mode: mode,
+            }
+        }
+        // No mode: callers refuse it first, with 4.
+        _ => hold(),
+    }
 }

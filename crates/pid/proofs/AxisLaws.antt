@@ -3,8 +3,8 @@ use mathlib.Core.Path.{_≡_, refl}
 use mathlib.Core.Bool.{Bool, true, false, cond, _&&_}
 use lib.Dec.{T}
 use lib.Ieee.{Float, nan, binary32, mul, div, lt, le}
-use Rattle.ieee754.specs.Magnitude.{magnitude}
-use Rattle.ieee754.proofs.clamp.Laws.{clamp-nan, clamp-between}
+use Rattle.float_bits.specs.Magnitude.{magnitude}
+use Rattle.float_clamp.proofs.Laws.{clamp-nan, clamp-between}
 use Rattle.pid.specs.declared.PidController.{PidController}
 use Rattle.pid.specs.declared.AntiJitterThresh.the-variants.{Below}
 use Rattle.pid.specs.declared.OutputLimits.{OutputLimits}

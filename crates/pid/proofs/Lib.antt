@@ -1,5 +1,3 @@
 -- The laws of the PID controller. Assumes nothing.
 pub mod AxisLaws
 pub mod AxesLaws
-pub mod ThreeLaws
-pub mod FourLaws

@@ -1,11 +1,9 @@
-// pid.rs: a PID controller by value, for one axis, and from it for three and four.
-pub mod axis; // axis.rt: one axis
-pub mod three; // three.rt: three axes
-pub mod four; // four.rt: four axes
-
+// pid.rs: a PID controller by value, for one axis.
+ghost use mathlib.Core.Path.{_≡_};
+ghost use Rattle.pid.specs.Axis.{antiJitter, limited, response, calculated, calculatedWithDerivative, resetOf, newController};
 use controller_params::PidGains;
-use linear::Vector3f;
-use linear::Vector4f;
+use float_bits::abs;
+use float_clamp::clamp;
 
 // The error below which the output is scaled toward zero, if there is one.
 pub enum AntiJitterThresh {
@@ -33,26 +31,94 @@ pub struct PidAnswer {
     pub controller: PidController,
 }
 
-pub struct PidController3 {
-    pub x: PidController,
-    pub y: PidController,
-    pub z: PidController,
+// Below the threshold the output shrinks with the error.
+fn apply_anti_jitter(thresh: AntiJitterThresh, out: f32, err: f32) -> f32
+    ensures { λ r. ⌜ r ≡ antiJitter thresh out err ⌝ }
+{
+    match thresh {
+        AntiJitterThresh::Absent => out,
+        AntiJitterThresh::Below(t) => {
+            let size = abs(err);
+            if (t > 0.0) & (size < t) {
+                out * size / t
+            } else {
+                out
+            }
+        }
+    }
 }
 
-pub struct PidController4 {
-    pub x: PidController,
-    pub y: PidController,
-    pub z: PidController,
-    pub w: PidController,
+fn apply_output_limits(limits: OutputLimits, out: f32) -> f32
+    ensures { λ r. ⌜ r ≡ limited limits out ⌝ }
+{
+    match limits {
+        OutputLimits::Absent => out,
+        OutputLimits::Between(lo, hi) => clamp(out, lo, hi),
+    }
 }
 
-// What a call answers, beside the controller as the call leaves it.
-pub struct PidAnswer3 {
-    pub output: Vector3f,
-    pub controller: PidController3,
-}
+impl PidController {
+    // A controller with nothing remembered.
+    pub fn new(gain: PidGains, thresh: AntiJitterThresh, limits: OutputLimits) -> PidController
+        ensures { λ r. ⌜ r ≡ newController gain thresh limits ⌝ }
+    {
+        PidController {
+            gain,
+            anti_jitter_thresh: thresh,
+            output_limits: limits,
+            prev_error: 0.0,
+            integrated_error: 0.0,
+        }
+    }
 
-pub struct PidAnswer4 {
-    pub output: Vector4f,
-    pub controller: PidController4,
+    // What both calculations do with an error and its derivative.
+    fn respond(self, error: f32, derivative: f32, dt_s: f32) -> PidAnswer
+        ensures { λ r. ⌜ r ≡ response self error derivative «dt_s» ⌝ }
+    {
+        let gain = self.gain;
+        let thresh = self.anti_jitter_thresh;
+        let limits = self.output_limits;
+        let sum = self.integrated_error + error * dt_s;
+        let integrated = clamp(sum, gain.ki_err_min, gain.ki_err_max);
+        let pid = gain.kp * error + gain.ki * integrated + gain.kd * derivative;
+        let output = apply_output_limits(limits, apply_anti_jitter(thresh, pid, error));
+        let controller = PidController {
+            gain,
+            anti_jitter_thresh: thresh,
+            output_limits: limits,
+            prev_error: error,
+            integrated_error: integrated,
+        };
+        PidAnswer { output, controller }
+    }
+
+    pub fn calculate(self, setpoint: f32, process_variable: f32, dt_s: f32) -> PidAnswer
+        ensures { λ r. ⌜ r ≡ calculated self setpoint «process_variable» «dt_s» ⌝ }
+    {
+        let error = setpoint - process_variable;
+        let de_dt = (error - self.prev_error) / dt_s;
+        self.respond(error, de_dt, dt_s)
+    }
+
+    // Like `calculate`, with the derivative from outside.
+    pub fn calculate_with_derivative(
+        self,
+        setpoint: f32,
+        process_variable: f32,
+        derivative: f32,
+        dt_s: f32,
+    ) -> PidAnswer
+        ensures { λ r. ⌜ r ≡ calculatedWithDerivative self setpoint «process_variable» derivative «dt_s» ⌝ }
+    {
+        self.respond(setpoint - process_variable, derivative, dt_s)
+    }
+
+    pub fn reset(self) -> PidController
+        ensures { λ r. ⌜ r ≡ resetOf self ⌝ }
+    {
+        let mut out = self;
+        out.prev_error = 0.0;
+        out.integrated_error = 0.0;
+        out
+    }
 }

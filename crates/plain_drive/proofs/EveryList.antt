@@ -12,12 +12,12 @@ use lib.IntN.{pos}
 use lib.Ieee.{Float, binary32, le, ofInt}
 use Rattle.tick_length.specs.declared.TickLengthAnswer.the-variants as Length
 use Rattle.tick_length.specs.TickLength.{isTickLength, tickLengthOf, secondsOf}
-use Rattle.vision_gate.specs.declared.VisionGateState.{VisionGateState}
-use Rattle.vision_gate.specs.declared.VisionGateState.the-variants.{Seeding, Tracking}
-use Rattle.vision_gate.specs.Outcome.{takes}
-use Rattle.vision_gate.specs.Gate.{distance}
+use Rattle.gate.specs.declared.VisionGateState.{VisionGateState}
+use Rattle.gate.specs.declared.VisionGateState.the-variants.{Seeding, Tracking}
+use Rattle.gate_action.specs.Outcome.{takes}
+use Rattle.gate.specs.Gate.{distance}
 use Rattle.vision_gate.specs.Vision.{active, newVision}
-use Rattle.maneuvers.specs.Memory.{emptyMemory}
+use Rattle.plan_memory.specs.Memory.{emptyMemory}
 use Rattle.vision_gate.proofs.Outcomes.{Small}
 use Rattle.vision_gate.proofs.Held.{Held, held-active, unheld-inactive, held-widens}
 use Rattle.body_controller.specs.declared.BodyController.{BodyController}

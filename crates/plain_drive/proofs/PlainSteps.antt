@@ -10,19 +10,19 @@ use lib.Ieee.{Float}
 use Rattle.linear.specs.declared.Vector4f.{Vector4f}
 use Rattle.linear.specs.declared.Vector6f.{Vector6f}
 use Rattle.controller_params.specs.Params.{visionClockStartS}
-use Rattle.vision_gate.specs.declared.VisionGateState.the-variants.{Seeding}
-use Rattle.vision_gate.specs.Seeding.{freshSeeding}
-use Rattle.maneuvers.specs.declared.ManeuverCommand.{ManeuverCommand}
-use Rattle.maneuvers.specs.declared.CommandAnswer.{CommandAnswer}
-use Rattle.maneuvers.specs.declared.CommandAnswer.the-variants as Command
-use Rattle.maneuvers.specs.declared.PlanAnswer.{PlanAnswer}
-use Rattle.maneuvers.specs.Command.{commandFrom}
-use Rattle.tracking.specs.declared.TrackingDivergenceState.{TrackingDivergenceState}
-use Rattle.tracking.specs.declared.TrackingDivergenceState.the-variants.{Normal, Recovering}
-use Rattle.tracking.specs.declared.HeldState.{HeldState}
-use Rattle.tracking.specs.declared.RecoveryAnswer.{RecoveryAnswer}
-use Rattle.tracking.specs.Divergence.{isRecovering}
-use Rattle.tracking.specs.Recovery.{trackingErrorExceeded, atRest, recovery}
+use Rattle.gate.specs.declared.VisionGateState.the-variants.{Seeding}
+use Rattle.seeding.specs.Seeding.{freshSeeding}
+use Rattle.commands.specs.declared.ManeuverCommand.{ManeuverCommand}
+use Rattle.commands.specs.declared.CommandAnswer.{CommandAnswer}
+use Rattle.commands.specs.declared.CommandAnswer.the-variants as Command
+use Rattle.plan_answer.specs.declared.PlanAnswer.{PlanAnswer}
+use Rattle.commands.specs.Command.{commandFrom}
+use Rattle.divergence.specs.declared.TrackingDivergenceState.{TrackingDivergenceState}
+use Rattle.divergence.specs.declared.TrackingDivergenceState.the-variants.{Normal, Recovering}
+use Rattle.recovery.specs.declared.HeldState.{HeldState}
+use Rattle.recovery.specs.declared.RecoveryAnswer.{RecoveryAnswer}
+use Rattle.divergence.specs.Divergence.{isRecovering}
+use Rattle.recovery.specs.Recovery.{trackingErrorExceeded, atRest, recovery}
 use Rattle.call_inputs.specs.declared.SightInput.{SightInput}
 use Rattle.call_inputs.specs.declared.PlanInput.{PlanInput}
 use Rattle.call_inputs.specs.declared.SteerInput.{SteerInput}

@@ -9,20 +9,20 @@ use lib.Dec.{eqb, ltb}
 use lib.Ieee.{Float}
 use Rattle.linear.specs.declared.Vector4f.{Vector4f}
 use Rattle.tick_length.specs.TickLength.{secondsOf}
-use Rattle.vision_gate.specs.declared.GateAction.{GateAction}
-use Rattle.vision_gate.specs.declared.GateAction.the-variants.{NoVision, Accumulate, SeedComplete, SeedReset, Accept, AcceptJump, FirstReject, Reject}
-use Rattle.vision_gate.specs.Outcome.{overwrites, numberOf}
+use Rattle.gate_action.specs.declared.GateAction.{GateAction}
+use Rattle.gate_action.specs.declared.GateAction.the-variants.{NoVision, Accumulate, SeedComplete, SeedReset, Accept, AcceptJump, FirstReject, Reject}
+use Rattle.gate_action.specs.Outcome.{overwrites, numberOf}
 use Rattle.vision_gate.specs.Vision.{newVision, visionAfter}
-use Rattle.maneuvers.specs.declared.CommandAnswer.{CommandAnswer}
-use Rattle.maneuvers.specs.declared.CommandAnswer.the-variants as Command
-use Rattle.maneuvers.specs.declared.Memory.{Memory}
-use Rattle.maneuvers.specs.declared.HeldSample.the-variants as Samples
-use Rattle.maneuvers.specs.declared.PrevCommand.the-variants as Prev
-use Rattle.maneuvers.specs.declared.PlanAnswer.{PlanAnswer}
-use Rattle.maneuvers.specs.declared.PlanAnswer.the-variants as Answers
-use Rattle.maneuvers.specs.Command.{commandFrom}
-use Rattle.maneuvers.specs.Memory.{emptyMemory, trajectoryDropped, afterTracking}
-use Rattle.tracking.specs.Recovery.{recovery}
+use Rattle.commands.specs.declared.CommandAnswer.{CommandAnswer}
+use Rattle.commands.specs.declared.CommandAnswer.the-variants as Command
+use Rattle.plan_memory.specs.declared.Memory.{Memory}
+use Rattle.plan_memory.specs.declared.HeldSample.the-variants as Samples
+use Rattle.plan_memory.specs.declared.PrevCommand.the-variants as Prev
+use Rattle.plan_answer.specs.declared.PlanAnswer.{PlanAnswer}
+use Rattle.plan_answer.specs.declared.PlanAnswer.the-variants as Answers
+use Rattle.commands.specs.Command.{commandFrom}
+use Rattle.plan_memory.specs.Memory.{emptyMemory, trajectoryDropped, afterTracking}
+use Rattle.recovery.specs.Recovery.{recovery}
 use Rattle.body_controller.specs.declared.BodyController.{BodyController}
 use Rattle.tick_parts.specs.declared.Counts.{Counts}
 use Rattle.call_inputs.specs.declared.SightInput.{SightInput}

@@ -10,11 +10,11 @@ use mathlib.Core.List.{List, [], _∷_, head-eq-of-cons-eq, tail-eq-of-cons-eq}
 use lib.Dec.{lit<, lit≤}
 use lib.ListN.{length}
 use Rattle.tick_length.specs.TickLength.{secondsOf}
-use Rattle.vision_gate.specs.declared.GateAction.{GateAction}
-use Rattle.vision_gate.specs.declared.GateAction.the-variants.{NoVision, Accumulate, SeedComplete, SeedReset, Accept, AcceptJump, FirstReject, Reject}
+use Rattle.gate_action.specs.declared.GateAction.{GateAction}
+use Rattle.gate_action.specs.declared.GateAction.the-variants.{NoVision, Accumulate, SeedComplete, SeedReset, Accept, AcceptJump, FirstReject, Reject}
 use Rattle.vision_gate.specs.declared.Vision.{Vision}
-use Rattle.vision_gate.specs.Outcome.{takes, numberOf}
-use Rattle.vision_gate.specs.Gate.{judged}
+use Rattle.gate_action.specs.Outcome.{takes, numberOf}
+use Rattle.gate.specs.Gate.{judged}
 use Rattle.vision_gate.specs.Vision.{visionAfter}
 use Rattle.vision_gate.proofs.Outcomes.{Small, fresh-small, stays-small, Seeds, refused-seeds}
 use Rattle.vision_gate.proofs.Held.{Held, Unheld, taken-held, held-waits, unheld-waits}

@@ -1,9 +1,9 @@
 -- The five calls and what is compared of their answers: document 01, 'The tick's four calls' and 'The plain drive'. Assumes nothing.
 use Prim.Native.Nat.{ℕ}
 use mathlib.Core.Bool.{Bool, true, false}
-use Rattle.vision_gate.specs.declared.GateAction.{GateAction}
-use Rattle.vision_gate.specs.Outcome.{takes}
-use Rattle.maneuvers.specs.declared.PlanAnswer.{PlanAnswer}
+use Rattle.gate_action.specs.declared.GateAction.{GateAction}
+use Rattle.gate_action.specs.Outcome.{takes}
+use Rattle.plan_answer.specs.declared.PlanAnswer.{PlanAnswer}
 use Rattle.call_inputs.specs.declared.SightInput.{SightInput}
 use Rattle.call_inputs.specs.declared.PlanInput.{PlanInput}
 use Rattle.call_inputs.specs.declared.SteerInput.{SteerInput}

@@ -7,9 +7,9 @@ use mathlib.Core.List.{List, [], _∷_}
 use lib.Dec.{T, leb}
 use lib.IntN.{pos}
 use lib.Ieee.{Float, binary32, le, ofInt}
-use Rattle.vision_gate.specs.declared.VisionGateState.{VisionGateState}
-use Rattle.vision_gate.specs.declared.VisionGateState.the-variants.{Seeding, Tracking}
-use Rattle.vision_gate.specs.Gate.{distance}
+use Rattle.gate.specs.declared.VisionGateState.{VisionGateState}
+use Rattle.gate.specs.declared.VisionGateState.the-variants.{Seeding, Tracking}
+use Rattle.gate.specs.Gate.{distance}
 use Rattle.vision_gate.specs.Vision.{active}
 use Rattle.body_controller.specs.declared.BodyController.{BodyController}
 use Rattle.body_controller.specs.declared.NewAnswer.the-variants as New

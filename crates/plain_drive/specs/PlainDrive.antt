@@ -10,30 +10,30 @@ use Rattle.linear.specs.declared.Vector6f.{Vector6f}
 use Rattle.linear.specs.Vector.{zeros6}
 use Rattle.controller_params.specs.Params.{visionClockStartS}
 use Rattle.tick_length.specs.TickLength.{secondsOf}
-use Rattle.vision_gate.specs.declared.VisionGateState.{VisionGateState}
-use Rattle.vision_gate.specs.declared.VisionGateState.the-variants.{Seeding}
-use Rattle.vision_gate.specs.Outcome.{takes, overwrites, numberOf}
-use Rattle.vision_gate.specs.Seeding.{freshSeeding}
-use Rattle.vision_gate.specs.Gate.{judged}
+use Rattle.gate.specs.declared.VisionGateState.{VisionGateState}
+use Rattle.gate.specs.declared.VisionGateState.the-variants.{Seeding}
+use Rattle.gate_action.specs.Outcome.{takes, overwrites, numberOf}
+use Rattle.seeding.specs.Seeding.{freshSeeding}
+use Rattle.gate.specs.Gate.{judged}
 use Rattle.vision_gate.specs.Vision.{active, clockAfter}
-use Rattle.maneuvers.specs.declared.ManeuverCommand.{ManeuverCommand}
-use Rattle.maneuvers.specs.declared.CommandAnswer.{CommandAnswer}
-use Rattle.maneuvers.specs.declared.CommandAnswer.the-variants as Command
-use Rattle.maneuvers.specs.declared.HeldSample.{HeldSample}
-use Rattle.maneuvers.specs.declared.HeldSample.the-variants as Samples
-use Rattle.maneuvers.specs.declared.PrevCommand.{PrevCommand}
-use Rattle.maneuvers.specs.declared.PrevCommand.the-variants as Prev
-use Rattle.maneuvers.specs.declared.PlanAnswer.{PlanAnswer}
-use Rattle.maneuvers.specs.declared.PlanAnswer.the-variants.{Hold, NoVision, Keep, NewPlan}
-use Rattle.maneuvers.specs.Command.{commandFrom}
+use Rattle.commands.specs.declared.ManeuverCommand.{ManeuverCommand}
+use Rattle.commands.specs.declared.CommandAnswer.{CommandAnswer}
+use Rattle.commands.specs.declared.CommandAnswer.the-variants as Command
+use Rattle.plan_memory.specs.declared.HeldSample.{HeldSample}
+use Rattle.plan_memory.specs.declared.HeldSample.the-variants as Samples
+use Rattle.plan_memory.specs.declared.PrevCommand.{PrevCommand}
+use Rattle.plan_memory.specs.declared.PrevCommand.the-variants as Prev
+use Rattle.plan_answer.specs.declared.PlanAnswer.{PlanAnswer}
+use Rattle.plan_answer.specs.declared.PlanAnswer.the-variants.{Hold, NoVision, Keep, NewPlan}
+use Rattle.commands.specs.Command.{commandFrom}
 use Rattle.maneuvers.specs.Plan.{decided}
-use Rattle.tracking.specs.declared.TrackingDivergenceState.{TrackingDivergenceState}
-use Rattle.tracking.specs.declared.TrackingDivergenceState.the-variants.{Normal}
-use Rattle.tracking.specs.declared.HeldState.{HeldState}
-use Rattle.tracking.specs.declared.HeldState.the-variants as States
-use Rattle.tracking.specs.declared.RecoveryAnswer.{RecoveryAnswer}
-use Rattle.tracking.specs.Divergence.{isRecovering}
-use Rattle.tracking.specs.Recovery.{recovery}
+use Rattle.divergence.specs.declared.TrackingDivergenceState.{TrackingDivergenceState}
+use Rattle.divergence.specs.declared.TrackingDivergenceState.the-variants.{Normal}
+use Rattle.recovery.specs.declared.HeldState.{HeldState}
+use Rattle.recovery.specs.declared.HeldState.the-variants as States
+use Rattle.recovery.specs.declared.RecoveryAnswer.{RecoveryAnswer}
+use Rattle.divergence.specs.Divergence.{isRecovering}
+use Rattle.recovery.specs.Recovery.{recovery}
 use Rattle.call_inputs.specs.declared.SightInput.{SightInput}
 use Rattle.call_inputs.specs.declared.PlanInput.{PlanInput}
 use Rattle.call_inputs.specs.declared.SteerInput.{SteerInput}

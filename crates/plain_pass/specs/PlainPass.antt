@@ -6,9 +6,9 @@ use mathlib.Core.Bool.{Bool, true, false, cond}
 use mathlib.Core.List.{List, [], _∷_}
 use lib.Dec.{eqb}
 use Rattle.tick_length.specs.TickLength.{isTickLength, secondsOf}
-use Rattle.vision_gate.specs.Outcome.{letterOf}
+use Rattle.gate_action.specs.Outcome.{letterOf}
 use Rattle.vision_gate.specs.Vision.{active}
-use Rattle.tracking.specs.Divergence.{isRecovering}
+use Rattle.divergence.specs.Divergence.{isRecovering}
 use Rattle.call_inputs.specs.declared.FinishInput.{FinishInput}
 use Rattle.call_inputs.specs.declared.PlanInput.{PlanInput}
 use Rattle.call_inputs.specs.declared.SteerInput.{SteerInput}

@@ -1,7 +1,7 @@
 -- The length of a vector's x and y, document 01, 'Stand-ins': `hypotf` and `norm`. Assumes nothing.
 use lib.Ieee.{Float, binary32, add, mul}
-use Rattle.ieee754.specs.Hypot.{hypotenuse}
-use Rattle.ieee754.specs.Root.{squareRoot}
+use Rattle.float_hypot.specs.Hypot.{hypotenuse}
+use Rattle.float_root.specs.Root.{squareRoot}
 use Rattle.linear.specs.declared.Vector3f.{Vector3f}
 
 -- `hypotf` of x and y

@@ -1,8 +1,8 @@
 // The length of a vector's x and y, in the two ways of the Rust: they round and overflow apart.
 ghost use mathlib.Core.Path.{_≡_};
 ghost use Rattle.planar.specs.Planar.{hypotXY, normXY};
-use ieee754::hypot::hypot;
-use ieee754::root::sqrt;
+use float_hypot::hypot;
+use float_root::sqrt;
 use linear::Vector3f;
 
 // By hypotf.

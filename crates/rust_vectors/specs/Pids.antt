@@ -11,13 +11,13 @@ use Rattle.pid.specs.declared.OutputLimits.{OutputLimits}
 use Rattle.pid.specs.declared.OutputLimits.the-variants as Limits
 use Rattle.pid.specs.declared.PidController.{PidController}
 use Rattle.pid.specs.declared.PidAnswer.{PidAnswer}
-use Rattle.pid.specs.declared.PidController3.{PidController3}
-use Rattle.pid.specs.declared.PidController4.{PidController4}
-use Rattle.pid.specs.declared.PidAnswer3.{PidAnswer3}
-use Rattle.pid.specs.declared.PidAnswer4.{PidAnswer4}
+use Rattle.pid_three.specs.declared.PidController3.{PidController3}
+use Rattle.pid_four.specs.declared.PidController4.{PidController4}
+use Rattle.pid_three.specs.declared.PidAnswer3.{PidAnswer3}
+use Rattle.pid_four.specs.declared.PidAnswer4.{PidAnswer4}
 use Rattle.pid.specs.Axis.{newController, calculated, calculatedWithDerivative, resetOf}
-use Rattle.pid.specs.Three.{calculated3, calculatedWithDerivative3, reset3}
-use Rattle.pid.specs.Four.{calculated4, calculatedWithDerivative4, reset4}
+use Rattle.pid_three.specs.Three.{calculated3, calculatedWithDerivative3, reset3}
+use Rattle.pid_four.specs.Four.{calculated4, calculatedWithDerivative4, reset4}
 use Rattle.block_words.specs.Word.{wordAt}
 use Rattle.block_floats.specs.Floats.{floatAt, vector3At, vector4At}
 use Rattle.rust_vectors.specs.declared.subject.Subject.{Subject}

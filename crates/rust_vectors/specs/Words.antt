@@ -6,8 +6,8 @@ use Rattle.linear.specs.declared.Vector2f.{Vector2f}
 use Rattle.linear.specs.declared.Vector3f.{Vector3f}
 use Rattle.linear.specs.declared.Vector4f.{Vector4f}
 use Rattle.pid.specs.declared.PidController.{PidController}
-use Rattle.pid.specs.declared.PidController3.{PidController3}
-use Rattle.pid.specs.declared.PidController4.{PidController4}
+use Rattle.pid_three.specs.declared.PidController3.{PidController3}
+use Rattle.pid_four.specs.declared.PidController4.{PidController4}
 
 -- a float's word; NaN has one
 abbrev pub word : Float → ℕ

@@ -8,7 +8,7 @@ use block_floats::vec2_at;
 use block_words::word_at;
 use first_order_lag::FirstOrderLag;
 use first_order_lag::FirstOrderLagAnswer;
-use ieee754::bits::to_bits;
+use float_bits::to_bits;
 use linear::Vector2f;
 
 // What a call leaves: the lag after it, and the output.

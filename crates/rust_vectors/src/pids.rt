@@ -16,11 +16,11 @@ use linear::Vector4f;
 use pid::AntiJitterThresh;
 use pid::OutputLimits;
 use pid::PidAnswer;
-use pid::PidAnswer3;
-use pid::PidAnswer4;
 use pid::PidController;
-use pid::PidController3;
-use pid::PidController4;
+use pid_four::PidAnswer4;
+use pid_four::PidController4;
+use pid_three::PidAnswer3;
+use pid_three::PidController3;
 
 // A header has the number of calls; the gains, axis by axis; whether there is a threshold, and one
 // for each axis; whether there are limits, the low ones and the high ones.

@@ -9,8 +9,8 @@ use crate::pids;
 use active_brake::ActiveBrakeController;
 use first_order_lag::FirstOrderLag;
 use pid::PidController;
-use pid::PidController3;
-use pid::PidController4;
+use pid_four::PidController4;
+use pid_three::PidController3;
 
 pub enum Subject {
     Pid1(PidController),

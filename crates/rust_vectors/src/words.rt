@@ -1,13 +1,13 @@
 // The words that an answer is compared by.
 ghost use mathlib.Core.Path.{_≡_};
 ghost use Rattle.rust_vectors.specs.Words.{words1, words2, words3, words4};
-use ieee754::bits::to_bits;
+use float_bits::to_bits;
 use linear::Vector2f;
 use linear::Vector3f;
 use linear::Vector4f;
 use pid::PidController;
-use pid::PidController3;
-use pid::PidController4;
+use pid_four::PidController4;
+use pid_three::PidController3;
 
 // What is compared after a call of one axis: the output, then what is remembered; then zeros.
 pub(crate) fn words1(output: f32, c: PidController) -> [u32; 12]

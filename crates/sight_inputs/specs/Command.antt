@@ -5,7 +5,7 @@ use mathlib.Core.List.{List}
 use lib.Dec.{eqb, ltb}
 use lib.Ieee.{Float}
 use Rattle.linear.specs.Vector.{zeroFloat}
-use Rattle.maneuvers.specs.declared.CommandWords.{CommandWords}
+use Rattle.commands.specs.declared.CommandWords.{CommandWords}
 use Rattle.block_floats.specs.Floats.{floatAt}
 use Rattle.block_check.specs.Layout as at
 

@@ -1,7 +1,7 @@
 -- A state and a matrix of a block, document 01, 'Records'. Assumes nothing.
 use Prim.Native.Nat.{ℕ, _+_}
 use mathlib.Core.List.{List}
-use Rattle.linear.specs.declared.Matrix3x4.{Matrix3x4}
+use Rattle.matrices.specs.declared.Matrix3x4.{Matrix3x4}
 use Rattle.linear.specs.declared.Vector6f.{Vector6f}
 use Rattle.block_floats.specs.Floats.{vector3At, vector4At}
 

@@ -1,9 +1,9 @@
 -- Samples and matrices of a block, document 01, 'Records'. Assumes nothing.
 use Prim.Native.Nat.{ℕ, _+_}
 use mathlib.Core.List.{List}
-use Rattle.linear.specs.declared.Matrix3.{Matrix3}
-use Rattle.linear.specs.declared.Matrix4x3.{Matrix4x3}
-use Rattle.maneuvers.specs.declared.Sample.{Sample}
+use Rattle.matrices.specs.declared.Matrix3.{Matrix3}
+use Rattle.matrices.specs.declared.Matrix4x3.{Matrix4x3}
+use Rattle.plan_memory.specs.declared.Sample.{Sample}
 use Rattle.block_floats.specs.Floats.{vector3At}
 use Rattle.sight_inputs.specs.Parts.{vector6At}
 

@@ -1,8 +1,8 @@
 -- A tick, a term of document 01: the four calls, up to the first that is turned away ('The calls'), and its line ('Cases', program `drive`).
 -- Assumes nothing.
-use Rattle.vision_gate.specs.Outcome.{letterOf}
+use Rattle.gate_action.specs.Outcome.{letterOf}
 use Rattle.vision_gate.specs.Vision.{active}
-use Rattle.tracking.specs.Divergence.{isRecovering}
+use Rattle.divergence.specs.Divergence.{isRecovering}
 use Rattle.body_controller.specs.declared.BodyController.{BodyController}
 use Rattle.call_inputs.specs.declared.FinishInput.{FinishInput}
 use Rattle.body_controller.specs.declared.FinishAnswer.{FinishAnswer}

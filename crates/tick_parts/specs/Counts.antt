@@ -4,8 +4,8 @@ use Prim.Native.Nat.{ℕ, _+_, _%_, _^_}
 use mathlib.Core.Bool.{cond}
 use mathlib.Core.List.{List, [], _∷_}
 use lib.Dec.{eqb}
-use Rattle.vision_gate.specs.declared.GateAction.{GateAction}
-use Rattle.vision_gate.specs.Outcome.{numberOf}
+use Rattle.gate_action.specs.declared.GateAction.{GateAction}
+use Rattle.gate_action.specs.Outcome.{numberOf}
 use Rattle.tick_parts.specs.declared.Counts.{Counts}
 
 unfoldable pub noCounts : Counts

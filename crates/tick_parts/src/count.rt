@@ -2,7 +2,7 @@
 ghost use mathlib.Core.Path.{_≡_};
 ghost use Rattle.tick_parts.specs.Counts.{noCounts, counted};
 use crate::Counts;
-use vision_gate::GateAction;
+use gate_action::GateAction;
 
 impl Counts {
     pub fn zeros() -> Counts

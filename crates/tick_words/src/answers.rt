@@ -10,10 +10,10 @@ use body_controller::PlanCallAnswer;
 use body_controller::SightAnswer;
 use body_controller::Sighted;
 use body_controller::SteerAnswer;
-use ieee754::bits::to_bits;
-use maneuvers::PlanAnswer;
+use float_bits::to_bits;
+use gate_action::GateAction;
+use plan_answer::PlanAnswer;
 use tick_parts::Outputs;
-use vision_gate::GateAction;
 
 // The outcome's place in document 01's order, Q to R.
 fn outcome(action: GateAction) -> u32 {

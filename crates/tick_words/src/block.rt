@@ -4,7 +4,6 @@ use crate::state::put_state;
 use body_controller::BodyController;
 use body_controller::NewAnswer;
 use tick_block::BlockAnswer;
-use tick_block::TickBlock;
 use tick_block::read;
 
 // Word 1 of a refused block, behind the eight outcomes.
@@ -40,8 +39,8 @@ fn begin(c: BodyController, k: u8, words: &mut [u32; 96]) -> BodyController {
     }
 }
 
-// The controller that drives a block with this k and number. A pass's first block has number 0, and
-// its k makes the controller.
+// The controller that drives a block with this k and number, where word 0 is the next tick's. A
+// pass's first block has number 0, and its k makes the controller.
 fn ready(
     c: BodyController,
     driving: bool,
@@ -49,31 +48,22 @@ fn ready(
     number: u32,
     words: &mut [u32; 96],
 ) -> BodyController {
-    let own = c.tick_length();
-    let mut refusal = refusal_of(k, k, number, 0);
     if driving {
-        refusal = refusal_of(k, own.k, number, c.ticks());
-    }
-    if refusal != 0 {
-        refuse(words, refusal);
+        let own = c.tick_length();
+        let refusal = refusal_of(k, own.k, number, words[0]);
+        if refusal != 0 {
+            refuse(words, refusal);
+        }
         return c;
     }
-    if driving {
+    if number != 0 {
+        refuse(words, 10);
         return c;
     }
     begin(c, k, words)
 }
 
-fn take(c: BodyController, driving: bool, b: TickBlock, words: &mut [u32; 96]) -> BodyController {
-    let tick = b.tick;
-    let own = ready(c, driving, tick.k, b.number, words);
-    if words[1] == REFUSED {
-        return own;
-    }
-    run_calls(own, b, words)
-}
-
-fn read_and_take(
+fn read_and_run(
     c: BodyController,
     driving: bool,
     block: &[u8],
@@ -82,7 +72,9 @@ fn read_and_take(
     let answer = read(block);
     match answer {
         BlockAnswer::Read(b) => {
-            return take(c, driving, b, words);
+            let tick = b.tick;
+            let own = ready(c, driving, tick.k, b.number, words);
+            return run_calls(own, b, words);
         }
         BlockAnswer::Refused(r) => {
             refuse(words, r.number());
@@ -91,18 +83,31 @@ fn read_and_take(
     }
 }
 
-// A refused block has the number that its tick would have had, and the state that a reset call then
-// leaves. The next block begins another pass.
+// What is left after a block. A refused one leaves the state that a reset call then gives; a tick
+// that was turned away leaves its own, and one that was finished has put it.
+fn put_left(words: &mut [u32; 96], driving: bool, c: BodyController) {
+    if words[1] == REFUSED {
+        if driving {
+            put_state(words, c.reset());
+        }
+        return;
+    }
+    if words[2] != 0 {
+        put_state(words, c);
+    }
+}
+
+// A refused block has the number that its tick would have had. The next block begins another pass.
 pub(crate) fn run_block(
     c: BodyController,
     driving: bool,
     block: &[u8],
     words: &mut [u32; 96],
 ) -> BodyController {
-    let after = read_and_take(c, driving, block, words);
-    if driving & (words[1] == REFUSED) {
-        words[0] = after.ticks();
-        put_state(words, after.reset());
+    if driving {
+        words[0] = c.ticks();
     }
+    let after = read_and_run(c, driving, block, words);
+    put_left(words, driving, after);
     after
 }

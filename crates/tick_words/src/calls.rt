@@ -13,7 +13,6 @@ use call_inputs::SteerInput;
 use tick_block::TickBlock;
 
 fn sight(c: BodyController, i: SightInput, words: &mut [u32; 96]) -> BodyController {
-    words[0] = c.ticks();
     let result = c.sight(i);
     let answer = result.answer;
     put_sight(words, answer);
@@ -24,9 +23,6 @@ fn plan(c: BodyController, i: PlanInput, words: &mut [u32; 96]) -> BodyControlle
     let result = c.plan(i);
     let answer = result.answer;
     put_plan(words, answer);
-    if words[2] != 0 {
-        put_state(words, result.controller);
-    }
     result.controller
 }
 
@@ -34,9 +30,6 @@ fn steer(c: BodyController, i: SteerInput, words: &mut [u32; 96]) -> BodyControl
     let result = c.steer(i);
     let answer = result.answer;
     put_steer(words, answer);
-    if words[2] != 0 {
-        put_state(words, result.controller);
-    }
     result.controller
 }
 
@@ -49,18 +42,26 @@ fn finish(c: BodyController, i: FinishInput, words: &mut [u32; 96]) -> BodyContr
     result.controller
 }
 
-pub(crate) fn run_calls(c: BodyController, b: TickBlock, words: &mut [u32; 96]) -> BodyController {
-    let sighted = sight(c, b.sight, words);
+// The calls, up to the first that is turned away; none where the block was.
+pub(crate) fn run_calls(
+    first: BodyController,
+    b: TickBlock,
+    words: &mut [u32; 96],
+) -> BodyController {
     if words[2] != 0 {
-        return sighted;
+        return first;
     }
-    let planned = plan(sighted, b.plan, words);
+    let mut c = sight(first, b.sight, words);
     if words[2] != 0 {
-        return planned;
+        return c;
     }
-    let steered = steer(planned, b.steer, words);
+    c = plan(c, b.plan, words);
     if words[2] != 0 {
-        return steered;
+        return c;
     }
-    finish(steered, b.finish, words)
+    c = steer(c, b.steer, words);
+    if words[2] != 0 {
+        return c;
+    }
+    finish(c, b.finish, words)
 }

@@ -1,6 +1,6 @@
-// Marks, vectors and samples among the 96 words, floats by their bits.
+// Marks, floats and vectors among the 96 words, floats by their bits.
 ghost use Prim.Native.Nat.{_+_, _<_};
-use ieee754::bits::to_bits;
+use float_bits::to_bits;
 use linear::Vector3f;
 use linear::Vector4f;
 use linear::Vector6f;
@@ -9,21 +9,31 @@ pub(crate) fn mark(is: bool) -> u32 {
     if is { 1 } else { 0 }
 }
 
+pub(crate) fn put3(words: &mut [u32; 96], at: usize, x: f32, y: f32, z: f32)
+    requires { ⌜ at + 2 < 96 ⌝ }
+{
+    words[at] = to_bits(x);
+    words[at + 1] = to_bits(y);
+    words[at + 2] = to_bits(z);
+}
+
+pub(crate) fn put4(words: &mut [u32; 96], at: usize, x: f32, y: f32, z: f32, w: f32)
+    requires { ⌜ at + 3 < 96 ⌝ }
+{
+    put3(words, at, x, y, z);
+    words[at + 3] = to_bits(w);
+}
+
 pub(crate) fn put_vec3(words: &mut [u32; 96], at: usize, v: Vector3f)
     requires { ⌜ at + 2 < 96 ⌝ }
 {
-    words[at] = to_bits(v.x);
-    words[at + 1] = to_bits(v.y);
-    words[at + 2] = to_bits(v.z);
+    put3(words, at, v.x, v.y, v.z);
 }
 
 pub(crate) fn put_vec4(words: &mut [u32; 96], at: usize, v: Vector4f)
     requires { ⌜ at + 3 < 96 ⌝ }
 {
-    words[at] = to_bits(v.x);
-    words[at + 1] = to_bits(v.y);
-    words[at + 2] = to_bits(v.z);
-    words[at + 3] = to_bits(v.w);
+    put4(words, at, v.x, v.y, v.z, v.w);
 }
 
 pub(crate) fn put_vec6(words: &mut [u32; 96], at: usize, v: Vector6f)

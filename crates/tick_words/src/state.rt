@@ -4,28 +4,27 @@ use crate::answers::put_outputs;
 use crate::put::mark;
 use crate::put::put_vec3;
 use crate::put::put_vec6;
+use crate::put::put3;
+use crate::put::put4;
 use body_controller::BodyController;
+use commands::GlobalPosition;
+use commands::HeadingLine;
+use commands::ManeuverCommand;
 use control_context::ControlContext;
-use ieee754::bits::to_bits;
-use maneuvers::GlobalPosition;
-use maneuvers::HeadingLine;
-use maneuvers::HeldSample;
-use maneuvers::ManeuverCommand;
-use maneuvers::Memory;
-use maneuvers::PrevCommand;
+use float_bits::to_bits;
+use gate::VisionGateState;
+use plan_memory::HeldSample;
+use plan_memory::Memory;
+use plan_memory::PrevCommand;
+use seeding::Seeding;
 use tracking::PidMemory;
-use vision_gate::Seeding;
 use vision_gate::Vision;
-use vision_gate::VisionGateState;
 
 fn put_seeding(words: &mut [u32; 96], s: Seeding) {
     let sum = s.pos_sum;
     let squares = s.pos_sq_sum;
     words[49] = s.n;
-    words[50] = to_bits(sum.x);
-    words[51] = to_bits(sum.y);
-    words[52] = to_bits(squares.x);
-    words[53] = to_bits(squares.y);
+    put4(words, 50, sum.x, sum.y, squares.x, squares.y);
 }
 
 fn put_gate(words: &mut [u32; 96], gate: VisionGateState) {
@@ -52,35 +51,35 @@ fn put_held(words: &mut [u32; 96], held: HeldSample) {
 fn put_position(words: &mut [u32; 96], p: GlobalPosition) {
     words[68] = 2;
     put_vec3(words, 69, p.target_pose);
-    words[72] = to_bits(p.max_linear_vel);
-    words[73] = to_bits(p.max_angular_vel);
-    words[74] = to_bits(p.max_linear_acc);
+    put3(
+        words,
+        72,
+        p.max_linear_vel,
+        p.max_angular_vel,
+        p.max_linear_acc,
+    );
     words[75] = to_bits(p.max_angular_acc);
 }
 
-fn put_line_place(words: &mut [u32; 96], l: HeadingLine) {
-    words[68] = 3;
-    words[69] = to_bits(l.global_theta);
-    words[70] = to_bits(l.start_x);
-    words[71] = to_bits(l.start_y);
-    words[72] = to_bits(l.dir_x);
-    words[73] = to_bits(l.dir_y);
-    words[74] = to_bits(l.line_velocity);
-}
-
-fn put_line_limits(words: &mut [u32; 96], l: HeadingLine) {
-    words[75] = to_bits(l.max_vel_colinear);
-    words[76] = to_bits(l.max_vel_perp);
-    words[77] = to_bits(l.max_vel_angular);
-    words[78] = to_bits(l.max_accel_colinear);
-    words[79] = to_bits(l.max_accel_perp);
-    words[80] = to_bits(l.max_accel_angular);
-    words[81] = to_bits(l.colinear_start_thresh);
-}
-
 fn put_line(words: &mut [u32; 96], l: HeadingLine) {
-    put_line_place(words, l);
-    put_line_limits(words, l);
+    words[68] = 3;
+    put3(words, 69, l.global_theta, l.start_x, l.start_y);
+    put3(words, 72, l.dir_x, l.dir_y, l.line_velocity);
+    put3(
+        words,
+        75,
+        l.max_vel_colinear,
+        l.max_vel_perp,
+        l.max_vel_angular,
+    );
+    put3(
+        words,
+        78,
+        l.max_accel_colinear,
+        l.max_accel_perp,
+        l.max_accel_angular,
+    );
+    words[81] = to_bits(l.colinear_start_thresh);
 }
 
 // Off and brake are never a previous command: their modes hold.

@@ -1,5 +1,3 @@
 -- What the contracts of `tracking` cite: document 01, 'Steer', sentence by sentence. Definitions only; the laws about them stand in proofs/.
 -- Assumes nothing.
 pub mod Setpoints
-pub mod Divergence
-pub mod Recovery

@@ -1,7 +1,7 @@
 -- The setpoints, document 01, 'Steer': `calc_tracking_setpoints` in the modes that the constants choose, feedback alone for the acceleration and
 -- feedforward alone for the twist. Assumes nothing.
 use lib.Ieee.{Float, binary32, add, sub}
-use Rattle.ieee754.specs.Remainder.{remainderBy, tau}
+use Rattle.float_remainder.specs.Remainder.{remainderBy, tau}
 use Rattle.linear.specs.declared.Vector3f.{Vector3f}
 use Rattle.linear.specs.declared.Vector6f.{Vector6f}
 use Rattle.linear.specs.Vector.{zeros3, sumOf, differenceOf, scaled}
@@ -10,8 +10,8 @@ use Rattle.controller_params.specs.Params.{linearPosePidGains, angularPosePidGa
 use Rattle.pid.specs.declared.AntiJitterThresh.the-variants.{Below}
 use Rattle.pid.specs.declared.OutputLimits.the-variants.{Absent}
 use Rattle.pid.specs.declared.PidController.{PidController}
-use Rattle.pid.specs.declared.PidController3.{PidController3}
-use Rattle.pid.specs.Three.{calculatedWithDerivative3}
+use Rattle.pid_three.specs.declared.PidController3.{PidController3}
+use Rattle.pid_three.specs.Three.{calculatedWithDerivative3}
 use Rattle.tracking.specs.declared.ManeuverSetpoints.{ManeuverSetpoints}
 use Rattle.tracking.specs.declared.PidMemory.{PidMemory}
 use Rattle.tracking.specs.declared.TrackingAnswer.{TrackingAnswer}

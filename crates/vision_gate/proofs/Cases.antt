@@ -4,18 +4,18 @@ use Prim.Native.Nat.{ℕ, zero, suc}
 use mathlib.Core.Bool.{Bool, true, false}
 use lib.Dec.{lit≤}
 use lib.Ieee.{Float, binary32, add, sub, mul, div, lt, le, eq, isNan, ofInt, toBits, ofBits}
-use Rattle.ieee754.specs.Hypot.{hypotenuse, hypotOf, outweighs, larger, smaller, rootOfSquares, scaledRoot}
-use Rattle.ieee754.specs.Magnitude.{magnitude}
-use Rattle.ieee754.specs.Root.{squareRoot, rootOf, wholeRoot, rootDigits, sticky}
+use Rattle.float_hypot.specs.Hypot.{hypotenuse, hypotOf, outweighs, larger, smaller, rootOfSquares, scaledRoot}
+use Rattle.float_bits.specs.Magnitude.{magnitude}
+use Rattle.float_root.specs.Root.{squareRoot, rootOf, wholeRoot, rootDigits, sticky}
 use Rattle.controller_params.specs.Params.{visionGateBaseRadiusM}
 use Rattle.linear.specs.Vector.{zeroFloat, zeros2, zeros3, zeros6}
 use Rattle.tick_length.specs.TickLength.{secondsOf}
-use Rattle.vision_gate.specs.declared.GateAction.the-variants.{Accumulate, SeedComplete, SeedReset, AcceptJump, FirstReject, Reject}
-use Rattle.vision_gate.specs.declared.VisionGateState.{VisionGateState}
-use Rattle.vision_gate.specs.declared.VisionGateState.the-variants.{Seeding, Tracking}
-use Rattle.vision_gate.specs.declared.Judgement.{Judgement}
-use Rattle.vision_gate.specs.Seeding.{freshSeeding, gathered, deviation, steady}
-use Rattle.vision_gate.specs.Gate.{seedingJudged, distance, radius, trackingJudged, sightingJudged, quiet, judged}
+use Rattle.gate_action.specs.declared.GateAction.the-variants.{Accumulate, SeedComplete, SeedReset, AcceptJump, FirstReject, Reject}
+use Rattle.gate.specs.declared.VisionGateState.{VisionGateState}
+use Rattle.gate.specs.declared.VisionGateState.the-variants.{Seeding, Tracking}
+use Rattle.gate.specs.declared.Judgement.{Judgement}
+use Rattle.seeding.specs.Seeding.{freshSeeding, gathered, deviation, steady}
+use Rattle.gate.specs.Gate.{seedingJudged, distance, radius, trackingJudged, sightingJudged, quiet, judged}
 use Rattle.vision_gate.specs.Vision.{active}
 use Rattle.vision_gate.specs.Since.{clockSince}
 use Rattle.vision_gate.proofs.Clock.{since-taken}

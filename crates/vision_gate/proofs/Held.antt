@@ -12,10 +12,10 @@ use Rattle.linear.specs.declared.Vector3f.{Vector3f}
 use Rattle.linear.specs.declared.Vector6f.{Vector6f}
 use Rattle.linear.specs.Vector.{zeroFloat}
 use Rattle.tick_length.specs.TickLength.{secondsOf}
-use Rattle.vision_gate.specs.declared.VisionGateState.the-variants.{Tracking}
+use Rattle.gate.specs.declared.VisionGateState.the-variants.{Tracking}
 use Rattle.vision_gate.specs.declared.Vision.{Vision}
-use Rattle.vision_gate.specs.Outcome.{takes}
-use Rattle.vision_gate.specs.Gate.{distance}
+use Rattle.gate_action.specs.Outcome.{takes}
+use Rattle.gate.specs.Gate.{distance}
 use Rattle.vision_gate.specs.Vision.{active, clockAfter, visionAfter}
 use Rattle.vision_gate.specs.Since.{sinceTaken, clockSince}
 use Rattle.vision_gate.proofs.Outcomes.{taken-restarts, refused-waits}

@@ -13,14 +13,14 @@ use Rattle.controller_params.specs.Params.{visionSeedSamples, visionSeedPosStdT
 use Rattle.linear.specs.declared.Vector3f.{Vector3f}
 use Rattle.linear.specs.declared.Vector6f.{Vector6f}
 use Rattle.linear.specs.Vector.{zeroFloat}
-use Rattle.vision_gate.specs.declared.Seeding.{Seeding}
-use Rattle.vision_gate.specs.declared.VisionGateState.{VisionGateState}
-use Rattle.vision_gate.specs.declared.VisionGateState.the-variants as Gate
-use Rattle.vision_gate.specs.declared.GateAction.the-variants.{Accumulate, SeedComplete, SeedReset, Accept, AcceptJump, FirstReject, Reject}
-use Rattle.vision_gate.specs.declared.Judgement.{Judgement}
-use Rattle.vision_gate.specs.Outcome.{takes}
-use Rattle.vision_gate.specs.Seeding.{freshSeeding, gathered, deviationX, deviationY, steady}
-use Rattle.vision_gate.specs.Gate.{seedingJudged, distance, radius, trackingJudged, sightingJudged, quiet, judged}
+use Rattle.seeding.specs.declared.Seeding.{Seeding}
+use Rattle.gate.specs.declared.VisionGateState.{VisionGateState}
+use Rattle.gate.specs.declared.VisionGateState.the-variants as Gate
+use Rattle.gate_action.specs.declared.GateAction.the-variants.{Accumulate, SeedComplete, SeedReset, Accept, AcceptJump, FirstReject, Reject}
+use Rattle.gate.specs.declared.Judgement.{Judgement}
+use Rattle.gate_action.specs.Outcome.{takes}
+use Rattle.seeding.specs.Seeding.{freshSeeding, gathered, deviationX, deviationY, steady}
+use Rattle.gate.specs.Gate.{seedingJudged, distance, radius, trackingJudged, sightingJudged, quiet, judged}
 
 -- ---- tracking
 

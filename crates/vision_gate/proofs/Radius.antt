@@ -15,10 +15,10 @@ use Rattle.linear.specs.Vector.{zeroFloat}
 use Rattle.tick_length.specs.TickLength.{secondsOf}
 use Rattle.linear.specs.declared.Vector3f.{Vector3f}
 use Rattle.linear.specs.declared.Vector6f.{Vector6f}
-use Rattle.vision_gate.specs.declared.VisionGateState.the-variants.{Tracking}
-use Rattle.vision_gate.specs.declared.GateAction.the-variants.{FirstReject, Reject}
-use Rattle.vision_gate.specs.Outcome.{takes}
-use Rattle.vision_gate.specs.Gate.{distance, radius, trackingJudged, sightingJudged, judged}
+use Rattle.gate.specs.declared.VisionGateState.the-variants.{Tracking}
+use Rattle.gate_action.specs.declared.GateAction.the-variants.{FirstReject, Reject}
+use Rattle.gate_action.specs.Outcome.{takes}
+use Rattle.gate.specs.Gate.{distance, radius, trackingJudged, sightingJudged, judged}
 use Rattle.vision_gate.specs.Since.{sinceTaken}
 use Rattle.vision_gate.proofs.Least.{AtLeast, add-least, double-least, below-least, least-not-zero}
 use Rattle.vision_gate.proofs.Ticks.{exact-at, sum-reaches}

@@ -1,7 +1,3 @@
 -- What the contracts of `vision_gate` cite: document 01, 'Gate'. Definitions only; the laws about them stand in proofs/. Assumes nothing.
-pub mod Outcome
-pub mod Seeding
-pub mod Gate
 pub mod Vision
-pub mod Prediction
 pub mod Since

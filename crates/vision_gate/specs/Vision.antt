@@ -5,12 +5,12 @@ use Rattle.linear.specs.declared.Vector3f.{Vector3f}
 use Rattle.linear.specs.declared.Vector6f.{Vector6f}
 use Rattle.linear.specs.Vector.{zeroFloat}
 use Rattle.controller_params.specs.Params.{visionActiveTimeoutS, visionClockStartS}
-use Rattle.vision_gate.specs.declared.VisionGateState.the-variants as Gate
+use Rattle.gate.specs.declared.VisionGateState.the-variants as Gate
 use Rattle.vision_gate.specs.declared.Vision.{Vision}
 use Rattle.vision_gate.specs.declared.VisionAnswer.{VisionAnswer}
-use Rattle.vision_gate.specs.Outcome.{takes}
-use Rattle.vision_gate.specs.Seeding.{freshSeeding}
-use Rattle.vision_gate.specs.Gate.{judged}
+use Rattle.gate_action.specs.Outcome.{takes}
+use Rattle.seeding.specs.Seeding.{freshSeeding}
+use Rattle.gate.specs.Gate.{judged}
 
 -- 'Active: <= 0.5', of the vision clock
 unfoldable pub active : Float → Bool

@@ -1,50 +1,13 @@
-// The gate of `update_state_estimate`: which sightings are taken, how long ago one was, and what a sighting does to the prediction.
-pub mod action;
-pub mod seeding;
-pub mod gate;
-pub mod prediction;
-pub mod update;
-
-use linear::Vector2f;
-
-// The sightings of a seeding: how many, the sums of their places and of the squares.
-pub struct Seeding {
-    pub n: u32,
-    pub pos_sum: Vector2f,
-    pub pos_sq_sum: Vector2f,
-}
-
-pub enum VisionGateState {
-    Seeding(Seeding),
-    // time_since_last_valid_s, document 01's t.
-    Tracking(f32),
-}
-
-// Document 01's outcomes, in its order.
-pub enum GateAction {
-    // quiet, Q
-    NoVision,
-    // gathered, G
-    Accumulate,
-    // complete, C
-    SeedComplete,
-    // reseeded, S
-    SeedReset,
-    // taken, T
-    Accept,
-    // jump, J
-    AcceptJump,
-    // first refusal, F
-    FirstReject,
-    // refused, R
-    Reject,
-}
-
-// What a tick makes of the gate.
-pub struct Judgement {
-    pub action: GateAction,
-    pub gate: VisionGateState,
-}
+// The gate of `update_state_estimate` and the vision clock together, a tick at a time.
+ghost use mathlib.Core.Path.{_≡_};
+ghost use Rattle.vision_gate.specs.Vision.{clockAfter, active, newVision, visionAfter};
+use controller_params::VISION_ACTIVE_TIMEOUT_S;
+use controller_params::VISION_CLOCK_START_S;
+use gate::VisionGateState;
+use gate_action::GateAction;
+use linear::Vector3f;
+use linear::Vector6f;
+use seeding::Seeding;
 
 pub struct Vision {
     pub gate: VisionGateState,
@@ -56,4 +19,59 @@ pub struct Vision {
 pub struct VisionAnswer {
     pub action: GateAction,
     pub vision: Vision,
+}
+
+// The vision clock after a tick; beyond the timeout it stands still.
+fn clock_after(clock: f32, taken: bool, dt: f32) -> f32
+    ensures { λ r. ⌜ r ≡ clockAfter clock taken dt ⌝ }
+{
+    if taken {
+        0.0
+    } else {
+        if clock <= VISION_ACTIVE_TIMEOUT_S {
+            clock + dt
+        } else {
+            clock
+        }
+    }
+}
+
+impl Vision {
+    // New, and what a reset leaves.
+    pub fn new() -> Vision
+        ensures { λ r. ⌜ r ≡ newVision ⌝ }
+    {
+        Vision {
+            gate: VisionGateState::Seeding(Seeding::fresh()),
+            time_since_vision_update_s: VISION_CLOCK_START_S,
+        }
+    }
+
+    pub fn vision_active(self) -> bool
+        ensures { λ r. ⌜ r ≡ active (self .«time_since_vision_update_s») ⌝ }
+    {
+        self.time_since_vision_update_s <= VISION_ACTIVE_TIMEOUT_S
+    }
+
+    // One tick: the gate judges, and the clock moves.
+    pub fn update(
+        self,
+        seen: bool,
+        sighting: Vector3f,
+        predicted: Vector6f,
+        dt: f32,
+    ) -> VisionAnswer
+        ensures { λ r. ⌜ r ≡ visionAfter self seen sighting predicted dt ⌝ }
+    {
+        let gate = self.gate;
+        let j = gate.judge(seen, sighting, predicted, dt);
+        let action = j.action;
+        let next = j.gate;
+        let clock = clock_after(self.time_since_vision_update_s, action.takes(), dt);
+        let vision = Vision {
+            gate: next,
+            time_since_vision_update_s: clock,
+        };
+        VisionAnswer { action, vision }
+    }
 }

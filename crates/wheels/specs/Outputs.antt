@@ -1,13 +1,13 @@
 -- What finish works out, document 01, 'Finish'. Assumes nothing.
 use lib.Ieee.{Float}
 use Rattle.linear.specs.declared.Vector3f.{Vector3f}
-use Rattle.linear.specs.declared.Matrix3.{Matrix3}
-use Rattle.linear.specs.declared.Matrix4x3.{Matrix4x3}
+use Rattle.matrices.specs.declared.Matrix3.{Matrix3}
+use Rattle.matrices.specs.declared.Matrix4x3.{Matrix4x3}
 use Rattle.linear.specs.Vector.{differenceOf}
-use Rattle.linear.specs.Matrix.{productOf3, productOf4x3}
-use Rattle.linear.specs.Rotation.{toGlobal}
+use Rattle.matrices.specs.Matrix.{productOf3, productOf4x3}
+use Rattle.matrices.specs.Rotation.{toGlobal}
 use Rattle.wheels.specs.declared.FinishOutputs.{FinishOutputs}
-use Rattle.wheels.specs.Limits.{accelClamped}
+use Rattle.limits.specs.Limits.{accelClamped}
 
 -- 'Finish': the acceleration less inverse inertia times the friction force in global axes
 unfoldable pub frictionCompensated : Float → Float → Matrix3 → Vector3f → Vector3f → Vector3f

@@ -1,18 +1,12 @@
-// Document 01, 'Steer' and 'Finish', each sentence a function: body_controller.rs from the setpoints
-// to the wheels.
-pub mod stop; // stop.rt: the stop state's speed
-pub mod limits; // limits.rt: the clamps of twist and acceleration
-pub mod friction; // friction.rt: the friction twist, local and gated
-pub mod outputs; // outputs.rt: from the friction force to wheel speeds and torques
-
+// Document 01, 'Finish': from the setpoints and the friction force to wheel speeds and torques.
+ghost use mathlib.Core.Path.{_≡_};
+ghost use Rattle.wheels.specs.Outputs.{frictionCompensated, finishOutputs};
+use limits::clamp_accel;
 use linear::Vector3f;
 use linear::Vector4f;
-
-// A vector within its bounds, and document 01's clamp mark: an entry is not equal to the one given.
-pub struct Clamped {
-    pub value: Vector3f,
-    pub clamped: bool,
-}
+use matrices::Matrix3;
+use matrices::Matrix4x3;
+use matrices::rotation::rotate_to_global;
 
 // `BodyController`'s outputs that finish sets, and the acceleration's clamp mark.
 pub struct FinishOutputs {
@@ -20,4 +14,42 @@ pub struct FinishOutputs {
     pub accel_clamped: bool,
     pub wheel_vel_out: Vector4f,
     pub wheel_torque_out: Vector4f,
+}
+
+// The acceleration less what the friction force, given in local axes, will take.
+fn friction_compensated(
+    c: f32,
+    s: f32,
+    i_inv: Matrix3,
+    friction_force_local: Vector3f,
+    body_accel: Vector3f,
+) -> Vector3f
+    ensures { λ r. ⌜ r ≡ frictionCompensated c s «i_inv» «friction_force_local» «body_accel» ⌝ }
+{
+    let friction_force_global = rotate_to_global(c, s, friction_force_local);
+    body_accel.sub(i_inv.mul(friction_force_global))
+}
+
+// c and s are the cosine and sine of the estimate's heading.
+pub fn finish_outputs(
+    c: f32,
+    s: f32,
+    i_inv: Matrix3,
+    twist2wheel: Matrix4x3,
+    accel2wheel: Matrix4x3,
+    friction_force_local: Vector3f,
+    body_twist: Vector3f,
+    body_accel: Vector3f,
+) -> FinishOutputs
+    ensures { λ r. ⌜ r ≡ finishOutputs c s «i_inv» twist2wheel accel2wheel «friction_force_local» «body_twist» «body_accel» ⌝ }
+{
+    let accel = friction_compensated(c, s, i_inv, friction_force_local, body_accel);
+    let clamp = clamp_accel(accel);
+    let value = clamp.value;
+    FinishOutputs {
+        body_accel_out_fric_comp: value,
+        accel_clamped: clamp.clamped,
+        wheel_vel_out: twist2wheel.mul(body_twist),
+        wheel_torque_out: accel2wheel.mul(value),
+    }
 }

@@ -4,7 +4,7 @@ ghost use Prim.Native.Nat.{_%_};
 ghost use Rattle.text_pieces.specs.Pieces.{field};
 ghost use Rattle.text_pieces.specs.Puts.{Puts};
 ghost use Rattle.wheels_text.specs.Wheels.{hexDigit, hexDigits, hex, wheelsText};
-use ieee754::bits::to_bits;
+use float_bits::to_bits;
 use linear::Vector4f;
 use text_pieces::put_byte;
 

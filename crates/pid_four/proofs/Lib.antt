@@ -1,0 +1,2 @@
+-- The laws of the PID controller. Assumes nothing.
+pub mod FourLaws

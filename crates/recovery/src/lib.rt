@@ -1,0 +1,108 @@
+// Document 01, 'Steer': the tracking error, and what recovery makes of it.
+ghost use mathlib.Core.Path.{_≡_};
+ghost use Rattle.recovery.specs.Recovery.{trackingErrors, anyExceeds, trackingErrorExceeded, atRest, recovery};
+use controller_params::TRACKING_DIVERGENCE_RECOVERY_REST_WHEEL_VEL;
+use controller_params::TRACKING_ERROR_THRESHOLD;
+use controller_params::TrackingErrors;
+use divergence::TrackingDivergenceState;
+use float_bits::abs;
+use float_remainder::remainder;
+use linear::Vector4f;
+use linear::Vector6f;
+use planar::hypot_xy;
+
+// The state of the sample that is held, if one is.
+pub enum HeldState {
+    Absent,
+    Held(Vector6f),
+}
+
+// The state after a tick; where `reset` is set, the caller resets the rest too.
+pub struct RecoveryAnswer {
+    pub state: TrackingDivergenceState,
+    pub reset: bool,
+}
+
+// How far a sample's state and the estimate are apart.
+fn tracking_errors(traj_state: Vector6f, estimate: Vector6f) -> TrackingErrors
+    ensures { λ r. ⌜ r ≡ trackingErrors «traj_state» estimate ⌝ }
+{
+    let pose = traj_state.pose.sub(estimate.pose);
+    let twist = traj_state.twist.sub(estimate.twist);
+    TrackingErrors {
+        pos_linear: hypot_xy(pose),
+        pos_angular: abs(remainder(pose.z)),
+        vel_linear: hypot_xy(twist),
+        vel_angular: abs(twist.z),
+    }
+}
+
+// NaN exceeds nothing.
+fn any_exceeds(error: TrackingErrors, limit: TrackingErrors) -> bool
+    ensures { λ r. ⌜ r ≡ anyExceeds error limit ⌝ }
+{
+    (error.pos_linear > limit.pos_linear)
+        | (error.pos_angular > limit.pos_angular)
+        | (error.vel_linear > limit.vel_linear)
+        | (error.vel_angular > limit.vel_angular)
+}
+
+// No error without a sample.
+fn tracking_error_exceeded(held: HeldState, estimate: Vector6f) -> bool
+    ensures { λ r. ⌜ r ≡ trackingErrorExceeded held estimate ⌝ }
+{
+    match held {
+        HeldState::Absent => false,
+        HeldState::Held(s) => any_exceeds(tracking_errors(s, estimate), TRACKING_ERROR_THRESHOLD),
+    }
+}
+
+// Every wheel is at rest; a NaN is not. One such tick is enough, as
+// TRACKING_DIVERGENCE_RECOVERY_REST_TICKS is 1.
+fn at_rest(wheels: Vector4f) -> bool
+    ensures { λ r. ⌜ r ≡ atRest wheels ⌝ }
+{
+    (abs(wheels.x) < TRACKING_DIVERGENCE_RECOVERY_REST_WHEEL_VEL)
+        & (abs(wheels.y) < TRACKING_DIVERGENCE_RECOVERY_REST_WHEEL_VEL)
+        & (abs(wheels.z) < TRACKING_DIVERGENCE_RECOVERY_REST_WHEEL_VEL)
+        & (abs(wheels.w) < TRACKING_DIVERGENCE_RECOVERY_REST_WHEEL_VEL)
+}
+
+// Judged on the sample that is held by then.
+pub fn update_tracking_divergence_recovery(
+    state: TrackingDivergenceState,
+    held: HeldState,
+    estimate: Vector6f,
+    wheels: Vector4f,
+) -> RecoveryAnswer
+    ensures { λ r. ⌜ r ≡ recovery state held estimate wheels ⌝ }
+{
+    match state {
+        TrackingDivergenceState::Normal => {
+            if tracking_error_exceeded(held, estimate) {
+                RecoveryAnswer {
+                    state: TrackingDivergenceState::Recovering,
+                    reset: false,
+                }
+            } else {
+                RecoveryAnswer {
+                    state: TrackingDivergenceState::Normal,
+                    reset: false,
+                }
+            }
+        }
+        TrackingDivergenceState::Recovering => {
+            if at_rest(wheels) {
+                RecoveryAnswer {
+                    state: TrackingDivergenceState::Normal,
+                    reset: true,
+                }
+            } else {
+                RecoveryAnswer {
+                    state: TrackingDivergenceState::Recovering,
+                    reset: false,
+                }
+            }
+        }
+    }
+}

@@ -1,0 +1,3 @@
+-- Laws and cases. Assumes nothing.
+pub mod Cases
+pub mod Pid

@@ -1,0 +1,26 @@
+-- The PID of tracking is a new one where nothing is remembered, and forgetting is its reset. Assumes nothing.
+use mathlib.Core.Path.{_≡_, refl}
+use Rattle.linear.specs.Vector.{zeros3}
+use Rattle.controller_params.specs.Params.{linearPosePidGains, angularPosePidGains, posePidAntiJitterThresh}
+use Rattle.pid.specs.declared.AntiJitterThresh.the-variants.{Below}
+use Rattle.pid.specs.declared.OutputLimits.the-variants.{Absent}
+use Rattle.pid.specs.Axis.{newController, resetOf}
+use Rattle.pid_three.specs.Three.{reset3}
+use Rattle.tracking.specs.declared.PidMemory.{PidMemory}
+use Rattle.tracking.specs.Setpoints.{emptyPid, poseAxis, posePid, pidMemory}
+
+pub starts-new : posePid emptyPid ≡ record {
+  x = newController linearPosePidGains (Below (posePidAntiJitterThresh .x)) Absent;
+  y = newController linearPosePidGains (Below (posePidAntiJitterThresh .y)) Absent;
+  z = newController angularPosePidGains (Below (posePidAntiJitterThresh .z)) Absent;
+}
+unfolding posePid poseAxis emptyPid zeros3 newController
+starts-new = refl
+
+pub forgets-by-reset : (m : PidMemory) → reset3 (posePid m) ≡ posePid emptyPid
+unfolding posePid poseAxis emptyPid zeros3 reset3 resetOf newController
+forgets-by-reset m = refl
+
+pub remembers : (m : PidMemory) → pidMemory (posePid m) ≡ m
+unfolding posePid poseAxis pidMemory
+remembers m = refl
