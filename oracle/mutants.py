@@ -16,8 +16,7 @@ from unproved import Kit
 
 HERE = Path(__file__).resolve().parent
 TOP = HERE.parent
-# What only the lines show.
-TEXT = {"line_text", "drive_pass", "tick_calls", "drive_blocks", "drive_text", "drive"}
+# What only the lines show, beside the crates that drive uses and tick_words doesn't.
 TEXT_FILES = {"tick_parts/src/count.rt"}
 REFUSALS = [1, 4, 5, 6, 7, 8, 9, 10]
 # k and ticks of each pass; the longer ones let the cameras run out at exactly 0.5, the shortest
@@ -26,16 +25,20 @@ PASSES = [(k, 500) for k in range(1, 65)] + [(2**i, 6000) for i in range(7)] + [
 
 
 def mutants():
-    """name, broken words, file, old text, new text, text appended."""
+    """name, broken words, and the edits: file, old text, new text, text appended."""
     found = []
     for part in (HERE / "mutants.txt").read_text().split("\n== ")[1:]:
-        name, words, file, *lines = part.rstrip("\n").split("\n")
-        old = [l[1:] for l in lines if l.startswith("-")]
-        new = [l[1:] for l in lines if l.startswith("+")]
-        more = []
-        if "MORE" in new:
-            new, more = new[: new.index("MORE")], new[new.index("MORE") + 1 :]
-        found.append((name, words, file, "\n".join(old), "\n".join(new), "\n".join(more)))
+        name, words, *lines = part.rstrip("\n").split("\n")
+        edits = []
+        starts = [i for i, l in enumerate(lines) if l[0] not in "-+"]
+        for at, end in zip(starts, starts[1:] + [len(lines)]):
+            old = [l[1:] for l in lines[at:end] if l.startswith("-")]
+            new = [l[1:] for l in lines[at:end] if l.startswith("+")]
+            more = []
+            if "MORE" in new:
+                new, more = new[: new.index("MORE")], new[new.index("MORE") + 1 :]
+            edits.append((lines[at], "\n".join(old), "\n".join(new), "\n".join(more)))
+        found.append((name, words, edits))
     return found
 
 
@@ -81,12 +84,12 @@ def seen_by(kit, program, sample, text):
     return count, first
 
 
-def planted(crates, name, file, old, new, more):
+def planted(crates, name, edits):
     """A copy of the crates, with the mistake."""
     shutil.rmtree(crates, ignore_errors=True)
     leave = shutil.ignore_patterns("specs", "proofs", "must-fail", "data", "stdin", "stdout")
     shutil.copytree(TOP / "crates", crates, ignore=leave)
-    if file:
+    for file, old, new, more in edits:
         source = (crates / file).read_text()
         if source.count(old) != 1:
             sys.exit(f"{name}: the old text stands {source.count(old)} times in {file}")
@@ -116,18 +119,20 @@ def main():
         sample = firmware(room)
         words = TOP / "crates/tick_words"
         stored = [("stored", words / "stdin", (words / "stdout").read_bytes(), b"")]
-        planted(room / "crates", "as it is", None, "", "", "")
+        text_only = {"drive", *kit.uses("drive")} - {"tick_words", *kit.uses("tick_words")}
+        planted(room / "crates", "as it is", [])
         for program in ("drive", "tick_words"):
             count, _, gate = tried(kit, room, program, "as it is", sample, stored)
             if count or gate:
                 sys.exit("the programs differ from the firmware before any mistake is planted")
-        for name, breaks, file, old, new, more in mutants():
+        for name, breaks, edits in mutants():
             if only not in name:
                 continue
-            planted(room / "crates", name, file, old, new, more)
-            text = file.split("/")[0] in TEXT or file in TEXT_FILES or "letter" in name
+            planted(room / "crates", name, edits)
+            files = list(dict.fromkeys(file for file, *_ in edits))
+            text = "letter" in name or all(f.split("/")[0] in text_only or f in TEXT_FILES for f in files)
             program = "drive" if text else "tick_words"
-            rows.append((name, breaks, file, *tried(kit, room, program, name, sample, stored)))
+            rows.append((name, breaks, files, *tried(kit, room, program, name, sample, stored)))
     finally:
         shutil.rmtree(room)
     if not only:
@@ -154,8 +159,8 @@ def report(rows):
         "| mistake | what it breaks | file | passes that differ | first seen at | stored |",
         "|---|---|---|---|---|---|",
     ]
-    for name, breaks, file, count, first, gate in rows:
-        cells = [name, breaks.replace("|", "\\|"), file.replace("/src/", "/"), str(count), first]
+    for name, breaks, files, count, first, gate in rows:
+        cells = [name, breaks.replace("|", "\\|"), ", ".join(files).replace("/src/", "/"), str(count), first]
         out.append("| " + " | ".join(cells) + " | " + {None: "", 0: "no", 1: "yes"}[gate] + " |")
     (HERE / "MUTANTS.md").write_text("\n".join(out) + "\n")
 

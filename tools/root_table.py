@@ -35,7 +35,7 @@ def function(name, ensures, entries, comment):
     print('    }\n}')
 
 
-print('''// The cubics of ieee754's first guess at a root, one for each last digit of an exponent's field and
+print('''// The cubics of sqrt's first guess at a root, one for each last digit of an exponent's field and
 // each of 32 intervals of significands. Only speed rests on these numbers; the contracts keep the
 // guess's differences and products in range. They stand in matches, which compile to tables that no
 // call copies. tools/root_table.py writes this file.

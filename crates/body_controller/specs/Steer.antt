@@ -9,9 +9,9 @@ use Rattle.tracking.specs.declared.ManeuverSetpoints.{ManeuverSetpoints}
 use Rattle.stop.specs.Stop.{stopScaled}
 use Rattle.limits.specs.Limits.{twistClamped}
 use Rattle.friction.specs.Friction.{frictionTwist}
-use Rattle.control_context.specs.declared.Tracked.{Tracked}
+use Rattle.context_steer.specs.declared.Tracked.{Tracked}
 use Rattle.control_context.specs.Context as Context
-use Rattle.control_context.specs.Steer as Context'
+use Rattle.context_steer.specs.Steer as Context'
 use Rattle.body_controller.specs.declared.BodyController.{BodyController}
 use Rattle.tick_parts.specs.declared.Refusal.{Refusal}
 use Rattle.tick_parts.specs.declared.Refusal.the-variants.{OutOfTurn, PlannerFailed}

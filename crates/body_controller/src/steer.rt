@@ -10,6 +10,7 @@ use crate::controller::FINISH;
 use crate::controller::SIGHT;
 use crate::controller::STEER;
 use call_inputs::SteerInput;
+use context_steer::steer;
 use friction::friction_twist;
 use limits::clamp_twist;
 use linear::Vector6f;
@@ -47,7 +48,8 @@ impl BodyController {
     fn steer_by(mut self, i: SteerInput) -> SteerResult
         ensures { λ r. ⌜ r ≡ steered self i ⌝ }
     {
-        let tracked = self.context.steer(
+        let tracked = steer(
+            self.context,
             self.planned,
             i.fresh,
             i.next,

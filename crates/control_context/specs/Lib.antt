@@ -1,3 +1,2 @@
 -- What the contracts of `control_context` cite. Definitions only. Assumes nothing.
 pub mod Context
-pub mod Steer

@@ -33,7 +33,7 @@ impl ControlContext {
     }
 
     // `reset`, where recovery ends: the previous mode and the wheels' disabled mark stay.
-    pub(crate) fn reset(self) -> ControlContext
+    pub fn reset(self) -> ControlContext
         ensures { λ r. ⌜ r ≡ contextReset self ⌝ }
     {
         let mut context = ControlContext::new(self.state_estimate);

@@ -1,7 +1,6 @@
-// `ControlContext` by value: what the tick's calls keep from tick to tick, and the work of sight,
-// plan and steer on it. Whose turn it is, and what is refused, is `body_controller`'s.
+// `ControlContext` by value: what the tick's calls keep from tick to tick, and the work of sight and
+// plan on it; steer's is `context_steer`. Whose turn it is, and what is refused, is `body_controller`'s.
 pub mod context; // context.rt: a new context, sight, plan, a reset
-pub mod steer; // steer.rt: tracking and recovery
 
 use commands::ManeuverCommand;
 use divergence::TrackingDivergenceState;
@@ -9,7 +8,6 @@ use gate_action::GateAction;
 use linear::Vector6f;
 use plan_answer::PlanAnswer;
 use plan_memory::Memory;
-use tracking::ManeuverSetpoints;
 use tracking::PidMemory;
 use vision_gate::Vision;
 
@@ -43,11 +41,5 @@ pub struct Planned {
 // Plan's answer, beside the context as plan leaves it.
 pub struct Decided {
     pub answer: PlanAnswer,
-    pub context: ControlContext,
-}
-
-// Setpoints, beside the context as steer leaves it.
-pub struct Tracked {
-    pub setpoints: ManeuverSetpoints,
     pub context: ControlContext,
 }

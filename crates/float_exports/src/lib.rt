@@ -1,4 +1,4 @@
-// The root, the remainder and the hypotenuse of `ieee754` under plain names, for Rust or C to link.
+// The root, the remainder and the hypotenuse under plain names, for Rust or C to link.
 ghost use mathlib.Core.Path.{_≡_};
 ghost use lib.Ieee.{binary32};
 ghost use Rattle.float_root.specs.Root.{squareRoot};

@@ -32,9 +32,9 @@ use Rattle.call_inputs.specs.declared.FinishInput.{FinishInput}
 use Rattle.body_controller.specs.declared.Steered.{Steered}
 use Rattle.tick_parts.specs.Counts.{counted, countList}
 use Rattle.control_context.specs.declared.ControlContext.{ControlContext}
-use Rattle.control_context.specs.declared.Tracked.{Tracked}
+use Rattle.context_steer.specs.declared.Tracked.{Tracked}
 use Rattle.control_context.specs.Context as Context
-use Rattle.control_context.specs.Steer as Tracking
+use Rattle.context_steer.specs.Steer as Tracking
 use Rattle.body_controller.specs.Turn.{isSight, isPlan, isSteer, isFinish}
 use Rattle.body_controller.specs.Controller.{resetOf}
 use Rattle.body_controller.specs.Sight.{tickLimit, sightAnswer, sighted, sightOf}

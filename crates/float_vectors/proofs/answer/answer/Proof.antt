@@ -1,4 +1,4 @@
--- `float_vectors::answer::answer` meets its contract: in each arm, what the calls of `ieee754` ensure, put together.
+-- `float_vectors::answer::answer` meets its contract: in each arm, what the calls ensure, put together.
 -- Assumes nothing.
 use borrow.Author.Needs.{needs}
 use Rattle.float_vectors.specs.Answer.{answerOf}

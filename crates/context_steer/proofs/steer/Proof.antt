@@ -1,8 +1,8 @@
--- `control_context::ControlContext::steer` meets its contract. Assumes nothing.
+-- `context_steer::steer` meets its contract. Assumes nothing.
 use borrow.Author.Needs.{needs}
-use Rattle.control_context.specs.Steer.{steered}
-use Rattle.control_context.proofs.ControlContext.steer.Statement.{statement}
-use Rattle.control_context.proofs.ControlContext.steer.Tie as tie
+use Rattle.context_steer.specs.Steer.{steered}
+use Rattle.context_steer.proofs.steer.Statement.{statement}
+use Rattle.context_steer.proofs.steer.Tie as tie
 
 follow-requires : tie.Need-follow-requires
 follow-requires c κs = search needs

@@ -1,8 +1,8 @@
--- `control_context::ControlContext::track` meets its contract. Assumes nothing.
+-- `context_steer::track` meets its contract. Assumes nothing.
 use borrow.Author.Needs.{needs}
-use Rattle.control_context.specs.Steer.{tracked}
-use Rattle.control_context.proofs.ControlContext.track.Statement.{statement}
-use Rattle.control_context.proofs.ControlContext.track.Tie as tie
+use Rattle.context_steer.specs.Steer.{tracked}
+use Rattle.context_steer.proofs.track.Statement.{statement}
+use Rattle.context_steer.proofs.track.Tie as tie
 
 calc-tracking-setpoints-requires : tie.Need-calc-tracking-setpoints-requires
 calc-tracking-setpoints-requires c κs = search needs

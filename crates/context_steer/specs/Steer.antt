@@ -14,10 +14,10 @@ use Rattle.recovery.specs.declared.HeldState.the-variants as States
 use Rattle.recovery.specs.declared.RecoveryAnswer.{RecoveryAnswer}
 use Rattle.tracking.specs.Setpoints.{zeroSetpoints, trackingSetpoints}
 use Rattle.recovery.specs.Recovery.{recovery}
 use Rattle.control_context.specs.declared.ControlContext.{ControlContext}
 use Rattle.control_context.specs.declared.Planned.{Planned}
-use Rattle.control_context.specs.declared.Tracked.{Tracked}
+use Rattle.context_steer.specs.declared.Tracked.{Tracked}
 use Rattle.control_context.specs.Context.{contextReset}
 
 -- ---- tracking
 

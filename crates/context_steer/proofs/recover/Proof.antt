@@ -1,8 +1,8 @@
--- `control_context::ControlContext::recover` meets its contract. Assumes nothing.
+-- `context_steer::recover` meets its contract. Assumes nothing.
 use borrow.Author.Needs.{needs}
-use Rattle.control_context.specs.Steer.{recovered}
-use Rattle.control_context.proofs.ControlContext.recover.Statement.{statement}
-use Rattle.control_context.proofs.ControlContext.recover.Tie as tie
+use Rattle.context_steer.specs.Steer.{recovered}
+use Rattle.context_steer.proofs.recover.Statement.{statement}
+use Rattle.context_steer.proofs.recover.Tie as tie
 
 held-state-requires : tie.Need-held-state-requires
 held-state-requires c κs = search needs

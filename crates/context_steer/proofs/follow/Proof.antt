@@ -1,8 +1,8 @@
--- `control_context::ControlContext::follow` meets its contract. Assumes nothing.
+-- `context_steer::follow` meets its contract. Assumes nothing.
 use borrow.Author.Needs.{needs}
-use Rattle.control_context.specs.Steer.{followed}
-use Rattle.control_context.proofs.ControlContext.follow.Statement.{statement}
-use Rattle.control_context.proofs.ControlContext.follow.Tie as tie
+use Rattle.context_steer.specs.Steer.{followed}
+use Rattle.context_steer.proofs.follow.Statement.{statement}
+use Rattle.context_steer.proofs.follow.Tie as tie
 
 enum-told : tie.Need-enum-told
 enum-told c = search needs

@@ -1,7 +1,7 @@
--- `control_context::steer::held_state` meets its contract. Assumes nothing.
+-- `context_steer::held_state` meets its contract. Assumes nothing.
 use borrow.Author.Needs.{needs}
-use Rattle.control_context.proofs.steer.held_state.Statement.{statement}
-use Rattle.control_context.proofs.steer.held_state.Tie as tie
+use Rattle.context_steer.proofs.held_state.Statement.{statement}
+use Rattle.context_steer.proofs.held_state.Tie as tie
 
 enum-told : tie.Need-enum-told
 enum-told c = search needs
