@@ -25,7 +25,8 @@ def cubic(i):
     line = lambda d: parabola(d) + Decimal(bend * d ** 2) / 2 ** 57
     slope = round((leading(line, 1) * 2 ** 40 - third) / 2 ** 8) * 2 ** 8 + third
     value = round((leading(lambda d: line(d) - Decimal(slope * d) / 2 ** 40, 0) * 2 ** 40 - bend) / 2 ** 32) * 2 ** 32 + bend
-    return value, slope
+    # The last interval before 2^24 begins 1/256 lower: at its end the guess would pass 2^64 and wrap to 0.
+    return value - (i == 31) * 2 ** 32, slope
 
 
 def function(name, ensures, entries, comment):
