@@ -15,7 +15,7 @@ use Rattle.body_controller.specs.declared.BodyController.{BodyController
 use Rattle.body_controller.specs.declared.Choices.{Choices}
 use Rattle.body_controller.specs.declared.NewAnswer.{NewAnswer}
 use Rattle.body_controller.specs.declared.NewAnswer.the-variants.{Made, Refused}
-use Rattle.body_controller.specs.declared.Steered.{Steered}
+use Rattle.call_answers.specs.declared.Steered.{Steered}
 use Rattle.tick_parts.specs.declared.Refusal.the-variants.{TickLength}
 use Rattle.tick_parts.specs.Refusal.{refusalNumber}
 use Rattle.tick_parts.specs.Counts.{noCounts}

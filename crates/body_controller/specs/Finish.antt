@@ -1,39 +1,15 @@
 -- Finish, document 01, 'The tick's four calls' and 'When a call is turned away'. Assumes nothing.
 use Prim.Native.Nat.{ℕ}
-use mathlib.Core.Bool.{Bool, cond}
-use Rattle.wheels.specs.declared.FinishOutputs.{FinishOutputs}
-use Rattle.wheels.specs.Outputs.{finishOutputs}
+use mathlib.Core.Bool.{cond}
 use Rattle.body_controller.specs.declared.BodyController.{BodyController}
 use Rattle.call_inputs.specs.declared.FinishInput.{FinishInput}
-use Rattle.body_controller.specs.declared.Finished.{Finished}
+use Rattle.call_answers.specs.Finish.{finishedBy}
 use Rattle.body_controller.specs.declared.FinishAnswer.{FinishAnswer}
 use Rattle.body_controller.specs.declared.FinishAnswer.the-variants.{Accepted, Refused}
 use Rattle.body_controller.specs.declared.FinishResult.{FinishResult}
-use Rattle.body_controller.specs.declared.Steered.{Steered}
 use Rattle.tick_parts.specs.declared.Refusal.the-variants.{OutOfTurn}
 use Rattle.tick_parts.specs.Refusal.{refusalNumber}
 use Rattle.body_controller.specs.Turn.{isFinish}
-
--- what finish works out of steer's setpoints
-abbrev pub finishedFrom : Steered → FinishInput → FinishOutputs
-finishedFrom s i = finishOutputs (s .cos) (s .sin) (i .«i_inv») (i .twist2wheel) (i .accel2wheel) (i .«friction_force_local») (s .«body_twist») (s .«body_accel»)
-
--- 'answers the outputs, the two clamp marks and the disabled mark'
-unfoldable pub finishedBy : Steered → FinishInput → Bool → Finished
-finishedBy s i disabled =
-    let f = finishedFrom s i in
-    record {
-      outputs = record {
-        «body_twist_out» = s .«body_twist»;
-        «body_accel_out» = s .«body_accel»;
-        «body_accel_out_fric_comp» = f .«body_accel_out_fric_comp»;
-        «wheel_vel_out» = f .«wheel_vel_out»;
-        «wheel_torque_out» = f .«wheel_torque_out»;
-      };
-      «vel_clamped» = s .«vel_clamped»;
-      «accel_clamped» = f .«accel_clamped»;
-      «wheels_disabled» = disabled;
-    }
 
 -- an accepted call: its outputs are the controller's
 abbrev pub finished : BodyController → FinishInput → FinishResult

@@ -3,16 +3,13 @@ use Prim.Native.Nat.{ℕ, _+_, _%_, _^_}
 use mathlib.Core.Bool.{cond}
 use lib.Dec.{ltb}
 use Rattle.tick_length.specs.TickLength.{secondsOf}
-use Rattle.gate_action.specs.declared.GateAction.{GateAction}
-use Rattle.gate_action.specs.Outcome.{takes, overwrites}
-use Rattle.prediction.specs.Prediction.{predictedAfter}
 use Rattle.control_context.specs.declared.Seen.{Seen}
 use Rattle.control_context.specs.Context.{seen}
 use Rattle.body_controller.specs.declared.BodyController.{BodyController}
 use Rattle.tick_parts.specs.declared.Refusal.{Refusal}
 use Rattle.tick_parts.specs.declared.Refusal.the-variants.{OutOfTurn, TickLimit}
 use Rattle.call_inputs.specs.declared.SightInput.{SightInput}
-use Rattle.body_controller.specs.declared.Sighted.{Sighted}
+use Rattle.call_answers.specs.Sight.{sightAnswer}
 use Rattle.body_controller.specs.declared.SightAnswer.{SightAnswer}
 use Rattle.body_controller.specs.declared.SightAnswer.the-variants.{Accepted, Refused}
 use Rattle.body_controller.specs.declared.SightResult.{SightResult}
@@ -27,15 +24,6 @@ tickLimit = 16777216
 -- outcome and context after this input
 abbrev pub seenBy : BodyController → SightInput → Seen
 seenBy c i = seen (c .context) (i .«vision_update») (i .«vision_pose_meas») (i .«predicted_state») (secondsOf (c .choices .tick .k))
-
--- 'answers outcome, measurement, whether vision counts, and the predicted state after any overwriting'
-unfoldable pub sightAnswer : GateAction → SightInput → Sighted
-sightAnswer action i = record {
-  action = action;
-  measurement = record { «vision_pose» = i .«vision_pose_meas»; «wheel_vel» = i .«wheel_vel_meas»; «gyro_theta» = i .«imu_gyro_theta_meas» };
-  «effective_vision_update» = takes action;
-  «state_prediction» = predictedAfter action (i .«predicted_state») (i .«vision_pose_meas») (i .«wheel_vel_meas») (i .«imu_gyro_theta_meas») (i .wheel2twist);
-}
 
 -- an accepted call
 unfoldable pub sighted : BodyController → SightInput → SightResult

@@ -1,14 +1,8 @@
 -- Steer, document 01, 'The tick's four calls' and 'When a call is turned away'. Assumes nothing.
 use Prim.Native.Nat.{ℕ}
 use mathlib.Core.Bool.{Bool, cond, _&&_}
-use lib.Ieee.{Float}
-use Rattle.linear.specs.declared.Vector6f.{Vector6f}
 use Rattle.tick_length.specs.TickLength.{secondsOf}
 use Rattle.plan_answer.specs.Answer.{needsPlan}
-use Rattle.tracking.specs.declared.ManeuverSetpoints.{ManeuverSetpoints}
-use Rattle.stop.specs.Stop.{stopScaled}
-use Rattle.limits.specs.Limits.{twistClamped}
-use Rattle.friction.specs.Friction.{frictionTwist}
 use Rattle.context_steer.specs.declared.Tracked.{Tracked}
 use Rattle.control_context.specs.Context as Context
 use Rattle.context_steer.specs.Steer as Context'
@@ -19,23 +13,10 @@ use Rattle.call_inputs.specs.declared.SteerInput.{SteerInput}
 use Rattle.body_controller.specs.declared.SteerAnswer.{SteerAnswer}
 use Rattle.body_controller.specs.declared.SteerAnswer.the-variants.{Accepted, Refused}
 use Rattle.body_controller.specs.declared.SteerResult.{SteerResult}
-use Rattle.body_controller.specs.declared.Limited.{Limited}
+use Rattle.call_answers.specs.Steer.{limited}
 use Rattle.tick_parts.specs.Refusal.{refusalNumber}
 use Rattle.body_controller.specs.Controller.{turnedTo}
 use Rattle.body_controller.specs.Turn.{isSteer}
-
--- ---- limits and the friction twist
-
--- stop, the twist's clamp, and the friction twist of what they leave
-unfoldable pub limited : ManeuverSetpoints → Vector6f → Bool → Float → Float → Limited
-limited s estimate stop cos sin =
-    let t = twistClamped (stopScaled stop (s .«body_twist»)) in
-    record {
-      «friction_twist» = frictionTwist cos sin estimate (t .value) (s .«body_accel»);
-      steered = record { «body_twist» = t .value; «body_accel» = s .«body_accel»; «vel_clamped» = t .clamped; cos = cos; sin = sin };
-    }
-
--- ---- the call
 
 -- setpoints and context after tracking and recovery
 abbrev pub trackedBy : BodyController → SteerInput → Tracked
@@ -45,7 +26,7 @@ trackedBy c i = Context'.steered (c .context) (c .planned) (i .fresh) (i .next) 
 unfoldable pub steered : BodyController → SteerInput → SteerResult
 steered c i =
     let t = trackedBy c i in
-    let l = limited (t .setpoints) (t .context .«state_estimate») (i .stop) (i .cos) (i .sin) in
+    let l = limited (t .setpoints .«body_twist») (t .setpoints .«body_accel») (t .context .«state_estimate») (i .stop) (i .cos) (i .sin) in
     record {
       answer = Accepted (l .«friction_twist»);
       controller = record {

@@ -7,7 +7,7 @@ ghost use Rattle.body_controller.specs.Controller.{started, newOf, newNu
 use crate::BodyController;
 use crate::Choices;
 use crate::NewAnswer;
-use crate::Steered;
+use call_answers::Steered;
 use commands::ManeuverCommand;
 use control_context::ControlContext;
 use control_context::Planned;

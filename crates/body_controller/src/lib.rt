@@ -6,12 +6,12 @@ pub mod plan; // plan.rt: the estimate and the decision
 pub mod sight; // sight.rt: the gate
 pub mod steer; // steer.rt: tracking and recovery
 
+use call_answers::Finished;
+use call_answers::Sighted;
+use call_answers::Steered;
 use control_context::ControlContext;
 use control_context::Planned;
-use gate_action::GateAction;
 use linear::Vector3f;
-use linear::Vector4f;
-use linear::Vector6f;
 use plan_answer::PlanAnswer;
 use tick_length::TickLength;
 use tick_parts::Counts;
@@ -43,14 +43,6 @@ pub enum NewAnswer {
     Refused(Refusal),
 }
 
-pub struct Finished {
-    pub outputs: Outputs,
-    // The two clamp marks.
-    pub vel_clamped: bool,
-    pub accel_clamped: bool,
-    pub wheels_disabled: bool,
-}
-
 pub enum FinishAnswer {
     Accepted(Finished),
     Refused(Refusal),
@@ -69,22 +61,6 @@ pub enum PlanCallAnswer {
 pub struct PlanResult {
     pub answer: PlanCallAnswer,
     pub controller: BodyController,
-}
-
-// The estimator's eight numbers.
-pub struct Measurement {
-    pub vision_pose: Vector3f,
-    pub wheel_vel: Vector4f,
-    pub gyro_theta: f32,
-}
-
-pub struct Sighted {
-    pub action: GateAction,
-    pub measurement: Measurement,
-    // Whether vision counts.
-    pub effective_vision_update: bool,
-    // After any overwriting.
-    pub state_prediction: Vector6f,
 }
 
 pub enum SightAnswer {
@@ -106,19 +82,4 @@ pub enum SteerAnswer {
 pub struct SteerResult {
     pub answer: SteerAnswer,
     pub controller: BodyController,
-}
-
-// What steer leaves to finish: limited setpoints, and the cosine and sine of the estimate's heading.
-pub struct Steered {
-    pub body_twist: Vector3f,
-    pub body_accel: Vector3f,
-    pub vel_clamped: bool,
-    pub cos: f32,
-    pub sin: f32,
-}
-
-// What steer leaves to finish, beside its answer.
-pub struct Limited {
-    pub friction_twist: Vector3f,
-    pub steered: Steered,
 }

@@ -1,45 +1,17 @@
 // Sight, the tick's first call: what becomes of the sighting.
 ghost use mathlib.Core.Path.{_≡_};
-ghost use Rattle.body_controller.specs.Sight.{sightAnswer, sighted, sightOf, sightNumber, sightRefusal};
+ghost use Rattle.body_controller.specs.Sight.{sighted, sightOf, sightNumber, sightRefusal};
 use crate::BodyController;
-use crate::Measurement;
 use crate::SightAnswer;
 use crate::SightResult;
-use crate::Sighted;
 use crate::controller::PLAN;
 use crate::controller::SIGHT;
+use call_answers::sight::sight_answer;
 use call_inputs::SightInput;
-use gate_action::GateAction;
-use prediction::predict_after;
 use tick_parts::Refusal;
 
 // Ticks that a controller can count.
 pub const TICK_LIMIT: u32 = 16_777_216;
-
-fn sight_answer(action: GateAction, i: SightInput) -> Sighted
-    ensures { λ r. ⌜ r ≡ sightAnswer action i ⌝ }
-{
-    let vision_pose = i.vision_pose_meas;
-    let wheel_vel = i.wheel_vel_meas;
-    let measurement = Measurement {
-        vision_pose,
-        wheel_vel,
-        gyro_theta: i.imu_gyro_theta_meas,
-    };
-    Sighted {
-        action,
-        measurement,
-        effective_vision_update: action.takes(),
-        state_prediction: predict_after(
-            action,
-            i.predicted_state,
-            vision_pose,
-            wheel_vel,
-            i.imu_gyro_theta_meas,
-            i.wheel2twist,
-        ),
-    }
-}
 
 impl BodyController {
     // The controller after the gate judged.

@@ -1,47 +1,16 @@
 // Steer, the tick's third call: tracking and recovery, stop and the twist's limits.
 ghost use mathlib.Core.Path.{_≡_};
-ghost use Rattle.body_controller.specs.Steer.{limited, steered, plannerFailed, steerOf, steerNumber, steerRefusal};
+ghost use Rattle.body_controller.specs.Steer.{steered, plannerFailed, steerOf, steerNumber, steerRefusal};
 use crate::BodyController;
-use crate::Limited;
 use crate::SteerAnswer;
 use crate::SteerResult;
-use crate::Steered;
 use crate::controller::FINISH;
 use crate::controller::SIGHT;
 use crate::controller::STEER;
+use call_answers::steer::limit;
 use call_inputs::SteerInput;
 use context_steer::steer;
-use friction::friction_twist;
-use limits::clamp_twist;
-use linear::Vector6f;
-use stop::stop_scaled;
 use tick_parts::Refusal;
-use tracking::ManeuverSetpoints;
-
-// The tick's setpoints, limited, and the friction twist.
-fn limit(
-    setpoints: ManeuverSetpoints,
-    estimate: Vector6f,
-    stop: bool,
-    cos: f32,
-    sin: f32,
-) -> Limited
-    ensures { λ r. ⌜ r ≡ limited setpoints estimate stop cos sin ⌝ }
-{
-    let clamp = clamp_twist(stop_scaled(stop, setpoints.body_twist));
-    let body_twist = clamp.value;
-    let body_accel = setpoints.body_accel;
-    Limited {
-        friction_twist: friction_twist(cos, sin, estimate, body_twist, body_accel),
-        steered: Steered {
-            body_twist,
-            body_accel,
-            vel_clamped: clamp.clamped,
-            cos,
-            sin,
-        },
-    }
-}
 
 impl BodyController {
     // The context steered, and its setpoints limited; finish is next.
@@ -58,7 +27,8 @@ impl BodyController {
         );
         let context = tracked.context;
         let limited = limit(
-            tracked.setpoints,
+            tracked.setpoints.body_twist,
+            tracked.setpoints.body_accel,
             context.state_estimate,
             i.stop,
             i.cos,

@@ -30,7 +30,8 @@ use Rattle.body_controller.specs.Turn.{isSight}
 use Rattle.tick_parts.specs.Counts.{noCounts, countList}
 use Rattle.control_context.specs.Context as Context
 use Rattle.body_controller.specs.Controller.{started, madeFrom, newOf, newNumber, resetOf}
-use Rattle.body_controller.specs.Sight.{tickLimit, seenBy, sightAnswer, sighted, sightRefused, sightOf}
+use Rattle.call_answers.specs.Sight.{sightAnswer}
+use Rattle.body_controller.specs.Sight.{tickLimit, seenBy, sighted, sightRefused, sightOf}
 use Rattle.body_controller.specs.Plan.{planOf}
 use Rattle.body_controller.specs.Steer.{steerOf}
 use Rattle.body_controller.specs.Finish.{finishOf}

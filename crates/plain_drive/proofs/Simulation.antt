@@ -29,7 +29,7 @@ use Rattle.call_inputs.specs.declared.SightInput.{SightInput}
 use Rattle.call_inputs.specs.declared.PlanInput.{PlanInput}
 use Rattle.call_inputs.specs.declared.SteerInput.{SteerInput}
 use Rattle.call_inputs.specs.declared.FinishInput.{FinishInput}
-use Rattle.body_controller.specs.declared.Steered.{Steered}
+use Rattle.call_answers.specs.declared.Steered.{Steered}
 use Rattle.tick_parts.specs.Counts.{counted, countList}
 use Rattle.control_context.specs.declared.ControlContext.{ControlContext}
 use Rattle.context_steer.specs.declared.Tracked.{Tracked}
@@ -37,7 +37,8 @@ use Rattle.control_context.specs.Context as Context
 use Rattle.context_steer.specs.Steer as Tracking
 use Rattle.body_controller.specs.Turn.{isSight, isPlan, isSteer, isFinish}
 use Rattle.body_controller.specs.Controller.{resetOf}
-use Rattle.body_controller.specs.Sight.{tickLimit, sightAnswer, sighted, sightOf}
+use Rattle.call_answers.specs.Sight.{sightAnswer}
+use Rattle.body_controller.specs.Sight.{tickLimit, sighted, sightOf}
 use Rattle.body_controller.specs.Plan.{planned, planRefused, planWith, planOf}
 use Rattle.body_controller.specs.Steer as Steer
 use Rattle.body_controller.specs.Finish.{finished, finishOf}

@@ -1,8 +1,8 @@
--- `body_controller::finish::finish_by` meets its contract. Assumes nothing.
+-- `call_answers::finish::finish_by` meets its contract. Assumes nothing.
 use borrow.Author.Needs.{needs}
-use Rattle.body_controller.specs.Finish.{finishedBy}
-use Rattle.body_controller.proofs.finish.finish_by.Statement.{statement}
-use Rattle.body_controller.proofs.finish.finish_by.Tie as tie
+use Rattle.call_answers.specs.Finish.{finishedBy}
+use Rattle.call_answers.proofs.finish.finish_by.Statement.{statement}
+use Rattle.call_answers.proofs.finish.finish_by.Tie as tie
 
 finish-outputs-requires : tie.Need-finish-outputs-requires
 finish-outputs-requires c κs = search needs

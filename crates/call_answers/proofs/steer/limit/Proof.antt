@@ -1,8 +1,8 @@
--- `body_controller::steer::limit` meets its contract. Assumes nothing.
+-- `call_answers::steer::limit` meets its contract. Assumes nothing.
 use borrow.Author.Needs.{needs}
-use Rattle.body_controller.specs.Steer.{limited}
-use Rattle.body_controller.proofs.steer.limit.Statement.{statement}
-use Rattle.body_controller.proofs.steer.limit.Tie as tie
+use Rattle.call_answers.specs.Steer.{limited}
+use Rattle.call_answers.proofs.steer.limit.Statement.{statement}
+use Rattle.call_answers.proofs.steer.limit.Tie as tie
 
 stop-scaled-requires : tie.Need-stop-scaled-requires
 stop-scaled-requires c κs = search needs
@@ -15,7 +15,7 @@ friction-twist-requires c κs = search needs
 
 returns : tie.Need-returns
 unfolding limited
-returns c = simp (c .before .before .before .before .stop-scaled .ensures, c .before .before .before .clamp-twist .ensures, c .friction-twist .ensures)
+returns c = simp (c .before .before .before .stop-scaled .ensures, c .before .before .clamp-twist .ensures, c .friction-twist .ensures)
 
 pub limit-spec : {M : Type 1} → statement M
 limit-spec =

@@ -1,8 +1,8 @@
--- `body_controller::sight::sight_answer` meets its contract. Assumes nothing.
+-- `call_answers::sight::sight_answer` meets its contract. Assumes nothing.
 use borrow.Author.Needs.{needs}
-use Rattle.body_controller.specs.Sight.{sightAnswer}
-use Rattle.body_controller.proofs.sight.sight_answer.Statement.{statement}
-use Rattle.body_controller.proofs.sight.sight_answer.Tie as tie
+use Rattle.call_answers.specs.Sight.{sightAnswer}
+use Rattle.call_answers.proofs.sight.sight_answer.Statement.{statement}
+use Rattle.call_answers.proofs.sight.sight_answer.Tie as tie
 
 takes-requires : tie.Need-takes-requires
 takes-requires c κs = search needs
