@@ -6,6 +6,7 @@ use controller_params::BRAKE_KP;
 use controller_params::BRAKE_MAX_CURRENT_A;
 use controller_params::PidGains;
 use linear::Vector4f;
+use linear::ZEROS_4;
 use pid::AntiJitterThresh;
 use pid::OutputLimits;
 use pid::PidController;
@@ -76,8 +77,7 @@ impl ActiveBrakeController {
         ensures { λ r. ⌜ r ≡ computed self «wheel_vel_meas» ⌝ }
     {
         let tick = self.tick;
-        let answer = self.pid
-            .calculate(Vector4f::zeros(), wheel_vel_meas, tick.seconds());
+        let answer = self.pid.calculate(ZEROS_4, wheel_vel_meas, tick.seconds());
         let currents = answer.output;
         let pid = answer.controller;
         BrakeAnswer {

@@ -11,12 +11,14 @@ use call_answers::Steered;
 use commands::ManeuverCommand;
 use control_context::ControlContext;
 use control_context::Planned;
-use linear::Vector3f;
-use linear::Vector6f;
+use linear::ZEROS_3;
+use linear::ZEROS_6;
 use plan_answer::PlanAnswer;
 use tick_length::TickLength;
 use tick_length::TickLengthAnswer;
 use tick_parts::Counts;
+use tick_parts::NO_COUNTS;
+use tick_parts::NO_OUTPUTS;
 use tick_parts::Outputs;
 use tick_parts::Refusal;
 
@@ -36,22 +38,22 @@ impl BodyController {
     {
         BodyController {
             choices,
-            context: ControlContext::new(Vector6f::zeros()),
+            context: ControlContext::new(ZEROS_6),
             turn: SIGHT,
             planned: Planned {
                 answer: PlanAnswer::Hold,
                 cmd: ManeuverCommand::Off,
             },
             steered: Steered {
-                body_twist: Vector3f::zeros(),
-                body_accel: Vector3f::zeros(),
+                body_twist: ZEROS_3,
+                body_accel: ZEROS_3,
                 vel_clamped: false,
                 cos: 0.0,
                 sin: 0.0,
             },
-            outputs: Outputs::zeros(),
+            outputs: NO_OUTPUTS,
             ticks: 0,
-            counts: Counts::zeros(),
+            counts: NO_COUNTS,
         }
     }
 
@@ -123,7 +125,8 @@ impl BodyController {
         let context = self.context;
         self.context = ControlContext::new(context.state_estimate);
         self.turn = SIGHT;
-        self.outputs = Outputs::zeros();
+        let outputs = NO_OUTPUTS;
+        self.outputs = outputs;
         self
     }
 }

@@ -5,6 +5,7 @@ use body_controller::BodyController;
 use line_text::Line;
 use line_text::RefusedLine;
 use tick_parts::Counts;
+use tick_parts::NO_COUNTS;
 
 // Before its first accepted block, a pass has no controller: that block's k makes it.
 pub enum Pass {
@@ -33,7 +34,7 @@ impl Pass {
         ensures { λ r. ⌜ r ≡ countsOf self ⌝ }
     {
         match self {
-            Pass::Empty => Counts::zeros(),
+            Pass::Empty => NO_COUNTS,
             Pass::Driving(c) => c.counts(),
         }
     }

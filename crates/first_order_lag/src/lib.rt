@@ -10,6 +10,7 @@ use controller_params::ENC_LAG_T_SLOPE;
 use controller_params::T_MIN_DEFAULT;
 use lag_axis::Axis;
 use linear::Vector2f;
+use linear::ZEROS_2;
 use tick_length::TickLength;
 use tick_length::TickLengthAnswer;
 
@@ -78,7 +79,7 @@ impl FirstOrderLag {
             t_min: duration_to_secs(T_MIN_DEFAULT),
             dt,
             n_steps: n_steps_of(dt),
-            state: Vector2f::zeros(),
+            state: ZEROS_2,
         }
     }
 
@@ -97,7 +98,8 @@ impl FirstOrderLag {
     pub fn reset(mut self) -> Self
         ensures { λ r. ⌜ r ≡ resetOf self ⌝ }
     {
-        self.state = Vector2f::zeros();
+        let state = ZEROS_2;
+        self.state = state;
         self
     }
 

@@ -7,15 +7,17 @@ use crate::Matrix3x4;
 use crate::Matrix4x3;
 use linear::Vector3f;
 use linear::Vector4f;
+use vectors::dot3;
+use vectors::dot4;
 
 impl Matrix3 {
     pub fn mul(self, v: Vector3f) -> Vector3f
         ensures { λ r. ⌜ r ≡ productOf3 self v ⌝ }
     {
         Vector3f {
-            x: self.r0.dot(v),
-            y: self.r1.dot(v),
-            z: self.r2.dot(v),
+            x: dot3(self.r0, v),
+            y: dot3(self.r1, v),
+            z: dot3(self.r2, v),
         }
     }
 }
@@ -25,9 +27,9 @@ impl Matrix3x4 {
         ensures { λ r. ⌜ r ≡ productOf3x4 self v ⌝ }
     {
         Vector3f {
-            x: self.r0.dot(v),
-            y: self.r1.dot(v),
-            z: self.r2.dot(v),
+            x: dot4(self.r0, v),
+            y: dot4(self.r1, v),
+            z: dot4(self.r2, v),
         }
     }
 }
@@ -37,10 +39,10 @@ impl Matrix4x3 {
         ensures { λ r. ⌜ r ≡ productOf4x3 self v ⌝ }
     {
         Vector4f {
-            x: self.r0.dot(v),
-            y: self.r1.dot(v),
-            z: self.r2.dot(v),
-            w: self.r3.dot(v),
+            x: dot3(self.r0, v),
+            y: dot3(self.r1, v),
+            z: dot3(self.r2, v),
+            w: dot3(self.r3, v),
         }
     }
 }

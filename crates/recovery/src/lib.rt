@@ -10,6 +10,7 @@ use float_remainder::remainder;
 use linear::Vector4f;
 use linear::Vector6f;
 use planar::hypot_xy;
+use vectors::sub;
 
 // The state of the sample that is held, if one is.
 pub enum HeldState {
@@ -27,8 +28,8 @@ pub struct RecoveryAnswer {
 fn tracking_errors(traj_state: Vector6f, estimate: Vector6f) -> TrackingErrors
     ensures { λ r. ⌜ r ≡ trackingErrors «traj_state» estimate ⌝ }
 {
-    let pose = traj_state.pose.sub(estimate.pose);
-    let twist = traj_state.twist.sub(estimate.twist);
+    let pose = sub(traj_state.pose, estimate.pose);
+    let twist = sub(traj_state.twist, estimate.twist);
     TrackingErrors {
         pos_linear: hypot_xy(pose),
         pos_angular: abs(remainder(pose.z)),

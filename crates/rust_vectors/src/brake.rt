@@ -9,7 +9,7 @@ use active_brake::BrakeAnswer;
 use active_brake::BrakeMade;
 use block_floats::vec4_at;
 use block_words::word_at;
-use linear::Vector4f;
+use linear::ZEROS_4;
 
 // A header has k and the number of calls.
 pub(crate) fn fresh(header: &[u8]) -> Subject
@@ -29,7 +29,7 @@ fn answer(b: ActiveBrakeController, call: &[u8]) -> BrakeAnswer
     match word_at(call, 0) {
         0 => b.compute(vec4_at(call, 1)),
         _ => BrakeAnswer {
-            currents: Vector4f::zeros(),
+            currents: ZEROS_4,
             controller: b.reset(),
         },
     }

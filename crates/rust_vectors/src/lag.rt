@@ -10,6 +10,7 @@ use first_order_lag::FirstOrderLag;
 use first_order_lag::FirstOrderLagAnswer;
 use float_bits::to_bits;
 use linear::Vector2f;
+use linear::ZEROS_2;
 
 // What a call leaves: the lag after it, and the output.
 struct LagAnswer {
@@ -53,7 +54,7 @@ fn answer(l: FirstOrderLag, call: &[u8]) -> LagAnswer
     match word_at(call, 0) {
         0 => LagAnswer {
             lag: l.step(input),
-            output: Vector2f::zeros(),
+            output: ZEROS_2,
         },
         1 => LagAnswer {
             lag: l,
@@ -61,7 +62,7 @@ fn answer(l: FirstOrderLag, call: &[u8]) -> LagAnswer
         },
         _ => LagAnswer {
             lag: l.reset(),
-            output: Vector2f::zeros(),
+            output: ZEROS_2,
         },
     }
 }

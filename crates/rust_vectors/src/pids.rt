@@ -11,8 +11,8 @@ use block_floats::vec3_at;
 use block_floats::vec4_at;
 use block_words::word_at;
 use controller_params::PidGains;
-use linear::Vector3f;
-use linear::Vector4f;
+use linear::ZEROS_3;
+use linear::ZEROS_4;
 use pid::AntiJitterThresh;
 use pid::OutputLimits;
 use pid::PidAnswer;
@@ -126,7 +126,7 @@ fn answer3(c: PidController3, call: &[u8]) -> PidAnswer3
         0 => c.calculate(setpoint, process, dt),
         1 => c.calculate_with_derivative(setpoint, process, vec3_at(call, 7), dt),
         _ => PidAnswer3 {
-            output: Vector3f::zeros(),
+            output: ZEROS_3,
             controller: c.reset(),
         },
     }
@@ -142,7 +142,7 @@ fn answer4(c: PidController4, call: &[u8]) -> PidAnswer4
         0 => c.calculate(setpoint, process, dt),
         1 => c.calculate_with_derivative(setpoint, process, vec4_at(call, 9), dt),
         _ => PidAnswer4 {
-            output: Vector4f::zeros(),
+            output: ZEROS_4,
             controller: c.reset(),
         },
     }

@@ -5,6 +5,7 @@ use controller_params::VISION_SEED_POS_STD_THRESH_M;
 use float_root::sqrt;
 use linear::Vector2f;
 use linear::Vector3f;
+use linear::ZEROS_2;
 
 // The sightings of a seeding: how many, the sums of their places and of the squares.
 pub struct Seeding {
@@ -28,8 +29,8 @@ impl Seeding {
     {
         Seeding {
             n: 0,
-            pos_sum: Vector2f::zeros(),
-            pos_sq_sum: Vector2f::zeros(),
+            pos_sum: ZEROS_2,
+            pos_sq_sum: ZEROS_2,
         }
     }
 

@@ -1,25 +1,10 @@
 // The eight counts, a term of document 01: how often each outcome came.
 ghost use mathlib.Core.Path.{_≡_};
-ghost use Rattle.tick_parts.specs.Counts.{noCounts, counted};
+ghost use Rattle.tick_parts.specs.Counts.{counted};
 use crate::Counts;
 use gate_action::GateAction;
 
 impl Counts {
-    pub fn zeros() -> Counts
-        ensures { λ r. ⌜ r ≡ noCounts ⌝ }
-    {
-        Counts {
-            quiet: 0,
-            gathered: 0,
-            complete: 0,
-            reseeded: 0,
-            taken: 0,
-            jump: 0,
-            first: 0,
-            refused: 0,
-        }
-    }
-
     // One outcome more. The tick limit keeps every count far from wrapping.
     pub fn count(mut self, action: GateAction) -> Counts
         ensures { λ r. ⌜ r ≡ counted self action ⌝ }

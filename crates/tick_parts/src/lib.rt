@@ -1,10 +1,11 @@
 // Small parts of a tick: the eight counts, the outputs, and the numbers of the refusals.
 pub mod count; // count.rt: how often each outcome came
-pub mod output; // output.rt: the five vectors that a tick gives
 pub mod refusals; // refusals.rt: document 01's numbers
 
 use linear::Vector3f;
 use linear::Vector4f;
+use linear::ZEROS_3;
+use linear::ZEROS_4;
 
 // In document 01's order, Q to R, under its words for the outcomes.
 pub struct Counts {
@@ -18,6 +19,18 @@ pub struct Counts {
     pub refused: u32,
 }
 
+pub const NO_COUNTS: Counts = Counts {
+    quiet: 0,
+    gathered: 0,
+    complete: 0,
+    reseeded: 0,
+    taken: 0,
+    jump: 0,
+    first: 0,
+    refused: 0,
+};
+
+// The outputs, a term of document 01: `BodyController`'s five `_out` and `_out_fric_comp` vectors.
 pub struct Outputs {
     pub body_twist_out: Vector3f,
     pub body_accel_out: Vector3f,
@@ -25,6 +38,15 @@ pub struct Outputs {
     pub wheel_vel_out: Vector4f,
     pub wheel_torque_out: Vector4f,
 }
+
+// The outputs of a new or reset controller.
+pub const NO_OUTPUTS: Outputs = Outputs {
+    body_twist_out: ZEROS_3,
+    body_accel_out: ZEROS_3,
+    body_accel_out_fric_comp: ZEROS_3,
+    wheel_vel_out: ZEROS_4,
+    wheel_torque_out: ZEROS_4,
+};
 
 // Document 01, 'When a call is turned away', in its order.
 pub enum Refusal {

@@ -10,10 +10,14 @@ use controller_params::PidGains;
 use float_remainder::remainder;
 use linear::Vector3f;
 use linear::Vector6f;
+use linear::ZEROS_3;
 use pid::AntiJitterThresh;
 use pid::OutputLimits;
 use pid::PidController;
 use pid_three::PidController3;
+use vectors::add;
+use vectors::scale;
+use vectors::sub;
 
 pub struct ManeuverSetpoints {
     pub body_twist: Vector3f,
@@ -37,8 +41,8 @@ impl ManeuverSetpoints {
         ensures { λ r. ⌜ r ≡ zeroSetpoints ⌝ }
     {
         Self {
-            body_twist: Vector3f::zeros(),
-            body_accel: Vector3f::zeros(),
+            body_twist: ZEROS_3,
+            body_accel: ZEROS_3,
         }
     }
 }
@@ -49,8 +53,8 @@ impl PidMemory {
         ensures { λ r. ⌜ r ≡ emptyPid ⌝ }
     {
         PidMemory {
-            prev_error: Vector3f::zeros(),
-            integrated_error: Vector3f::zeros(),
+            prev_error: ZEROS_3,
+            integrated_error: ZEROS_3,
         }
     }
 }
@@ -119,16 +123,14 @@ fn wrapped(pos: Vector3f, pose: Vector3f) -> Vector3f
 fn twist_setpoint(traj_vel: Vector3f) -> Vector3f
     ensures { λ r. ⌜ r ≡ twistSetpoint «traj_vel» ⌝ }
 {
-    traj_vel
-        .scale(POSE_VEL_FEEDFORWARD_GAIN)
-        .add(Vector3f::zeros())
+    add(scale(traj_vel, POSE_VEL_FEEDFORWARD_GAIN), ZEROS_3)
 }
 
 // Feedback alone: the feedforward's term is zeros.
 fn accel_setpoint(feedback: Vector3f) -> Vector3f
     ensures { λ r. ⌜ r ≡ accelSetpoint feedback ⌝ }
 {
-    Vector3f::zeros().add(feedback.scale(POSE_ACCEL_FEEDBACK_GAIN))
+    add(ZEROS_3, scale(feedback, POSE_ACCEL_FEEDBACK_GAIN))
 }
 
 // traj_state and traj_accel are a sample's; the modes chosen don't use the acceleration.
@@ -144,7 +146,7 @@ pub fn calc_tracking_setpoints(
     let pose_estimate = state_estimate.pose;
     let traj_vel = traj_state.twist;
     let traj_pos = wrapped(traj_state.pose, pose_estimate);
-    let twist_error = traj_vel.sub(state_estimate.twist);
+    let twist_error = sub(traj_vel, state_estimate.twist);
     let answer = pose_pid(pid).calculate_with_derivative(traj_pos, pose_estimate, twist_error, dt);
     let pid = memory_of(answer.controller);
     let setpoints = ManeuverSetpoints {

@@ -7,6 +7,7 @@ use linear::Vector4f;
 use matrices::Matrix3;
 use matrices::Matrix4x3;
 use matrices::rotation::rotate_to_global;
+use vectors::sub;
 
 // `BodyController`'s outputs that finish sets, and the acceleration's clamp mark.
 pub struct FinishOutputs {
@@ -27,7 +28,7 @@ fn friction_compensated(
     ensures { λ r. ⌜ r ≡ frictionCompensated c s «i_inv» «friction_force_local» «body_accel» ⌝ }
 {
     let friction_force_global = rotate_to_global(c, s, friction_force_local);
-    body_accel.sub(i_inv.mul(friction_force_global))
+    sub(body_accel, i_inv.mul(friction_force_global))
 }
 
 // c and s are the cosine and sine of the estimate's heading.

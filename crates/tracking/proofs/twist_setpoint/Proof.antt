@@ -1,5 +1,6 @@
 -- `tracking::twist_setpoint` meets its contract. Assumes nothing.
 use borrow.Author.Needs.{needs}
+use Rattle.linear.specs.Vector.{zeros3}
 use Rattle.tracking.specs.Setpoints.{twistSetpoint}
 use Rattle.tracking.proofs.twist_setpoint.Statement.{statement}
 use Rattle.tracking.proofs.twist_setpoint.Tie as tie
@@ -7,15 +8,12 @@ use Rattle.tracking.proofs.twist_setpoint.Tie as tie
 scale-requires : tie.Need-scale-requires
 scale-requires c κs = search needs
 
-zeros-requires : tie.Need-zeros-requires
-zeros-requires c κs = search needs
-
 add-requires : tie.Need-add-requires
 add-requires c κs = search needs
 
 returns : tie.Need-returns
-unfolding twistSetpoint
-returns c = simp (c .before .before .scale .ensures, c .before .zeros .ensures, c .add .ensures)
+unfolding twistSetpoint zeros3
+returns c = simp (c .before .scale .ensures, c .add .ensures)
 
 pub twist-setpoint-spec : {M : Type 1} → statement M
-twist-setpoint-spec = tie.close (tie.spec scale-requires zeros-requires add-requires returns)
+twist-setpoint-spec = tie.close (tie.spec scale-requires add-requires returns)

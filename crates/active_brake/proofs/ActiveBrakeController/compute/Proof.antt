@@ -1,11 +1,9 @@
 -- `active_brake::ActiveBrakeController::compute` meets its contract. Assumes nothing.
+use Rattle.linear.specs.Vector.{zeros4}
 use Rattle.active_brake.specs.Brake.{computed}
 use borrow.Author.Needs.{needs}
 use Rattle.active_brake.proofs.ActiveBrakeController.compute.Statement.{statement}
 use Rattle.active_brake.proofs.ActiveBrakeController.compute.Tie as tie
-
-zeros-requires : tie.Need-zeros-requires
-zeros-requires c κs = search needs
 
 seconds-requires : tie.Need-seconds-requires
 seconds-requires c κs = search needs
@@ -14,8 +12,8 @@ calculate-requires : tie.Need-calculate-requires
 calculate-requires c κs = search needs
 
 returns : tie.Need-returns
-unfolding computed
-returns c = simp (c .before .before .calculate .ensures, c .before .before .before .seconds .ensures, c .before .before .before .before .zeros .ensures)
+unfolding computed zeros4
+returns c = simp (c .before .before .calculate .ensures, c .before .before .before .seconds .ensures)
 
 pub compute-spec : {M : Type 1} → statement M
-compute-spec = tie.close (tie.spec zeros-requires seconds-requires calculate-requires returns)
+compute-spec = tie.close (tie.spec seconds-requires calculate-requires returns)

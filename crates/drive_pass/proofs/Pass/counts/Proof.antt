@@ -1,13 +1,11 @@
 -- `drive_pass::Pass::counts` meets its contract. Assumes nothing.
 use borrow.Author.Needs.{needs}
+use Rattle.tick_parts.specs.Counts.{noCounts}
 use Rattle.drive_pass.proofs.Pass.counts.Statement.{statement}
 use Rattle.drive_pass.proofs.Pass.counts.Tie as tie
 
 enum-told : tie.Need-enum-told
 enum-told c = search needs
-
-zeros-requires : tie.Need-zeros-requires
-zeros-requires c κs = search needs
 
 enum-known-self : tie.Need-enum-known-self
 enum-known-self c = search needs
@@ -16,11 +14,12 @@ counts-requires : tie.Need-counts-requires
 counts-requires c κs = search needs
 
 returns : tie.Need-returns
-returns c = rw (c .zeros .ensures, c .before .enum-told .given .1)
+unfolding noCounts
+returns c = rw (c .enum-told .given .1)
 
 returns-2 : tie.Need-returns-2
 returns-2 c = rw (c .counts .ensures, c .before .before .self .given .1)
 
 pub counts-spec : {M : Type 1} → statement M
 counts-spec =
-    tie.close (tie.spec enum-told zeros-requires enum-known-self counts-requires returns returns-2)
+    tie.close (tie.spec enum-told enum-known-self counts-requires returns returns-2)

@@ -1,5 +1,6 @@
 -- `first_order_lag::FirstOrderLag::new_from_horizon` meets its contract. Assumes nothing.
 use borrow.Author.Needs.{needs}
+use Rattle.linear.specs.Vector.{zeros2}
 use Rattle.first_order_lag.specs.FirstOrderLag.{dtOf, newLag}
 use Rattle.first_order_lag.proofs.Range.{horizon-castable}
 use Rattle.first_order_lag.proofs.FirstOrderLag.new_from_horizon.Statement.{statement}
@@ -20,18 +21,14 @@ n-steps-of-requires c κs =
     rw (c .before .duration-to-secs .ensures, c .before .before .micros .ensures)
     (horizon-castable (c .before .before .before .args .t .k) (c .before .before .before .pre))
 
-zeros-requires : tie.Need-zeros-requires
-zeros-requires c κs = search needs
-
 returns : tie.Need-returns
-unfolding newLag dtOf
+unfolding newLag dtOf zeros2
 returns c =
     simp (
-      c .zeros .ensures,
-      c .before .n-steps-of .ensures,
-      c .before .before .duration-to-secs2 .ensures,
-      c .before .before .before .duration-to-secs .ensures,
-      c .before .before .before .before .micros .ensures,
+      c .n-steps-of .ensures,
+      c .before .duration-to-secs2 .ensures,
+      c .before .before .duration-to-secs .ensures,
+      c .before .before .before .micros .ensures,
     )
 
 pub new-from-horizon-spec : {M : Type 1} → statement M
@@ -42,5 +39,4 @@ new-from-horizon-spec =
     duration-to-secs-requires
     duration-to-secs-requires-2
     n-steps-of-requires
-    zeros-requires
     returns)

@@ -2,6 +2,7 @@
 use mathlib.Core.Path.{sym, _∙_}
 use borrow.Author.Tests.{ne-eqb}
 use borrow.Author.Needs.{needs}
+use Rattle.linear.specs.Vector.{zeros4}
 use Rattle.rust_vectors.specs.Brake.{answer}
 use Rattle.rust_vectors.proofs.brake.answer.Statement.{statement}
 use Rattle.rust_vectors.proofs.brake.answer.Tie as tie
@@ -15,9 +16,6 @@ vec4-at-requires c κs = search needs
 compute-requires : tie.Need-compute-requires
 compute-requires c κs = search needs
 
-zeros-requires : tie.Need-zeros-requires
-zeros-requires c κs = search needs
-
 reset-requires : tie.Need-reset-requires
 reset-requires c κs = search needs
 
@@ -26,8 +24,8 @@ unfolding answer
 returns c = simp (c .compute .ensures, c .before .vec4-at .ensures, sym (c .before .before .before .word-at .ensures) ∙ c .before .before .match .keys1)
 
 returns-2 : tie.Need-returns-2
-unfolding answer
-returns-2 c = simp (c .reset .ensures, c .before .zeros .ensures, sym (c .before .before .before .word-at .ensures), ne-eqb _ 0 (c .before .before .match .rest .1))
+unfolding answer zeros4
+returns-2 c = simp (c .reset .ensures, sym (c .before .before .word-at .ensures), ne-eqb _ 0 (c .before .match .rest .1))
 
 pub answer-spec : {M : Type 1} → statement M
 answer-spec =
@@ -36,7 +34,6 @@ answer-spec =
     word-at-requires
     vec4-at-requires
     compute-requires
-    zeros-requires
     reset-requires
     returns
     returns-2)

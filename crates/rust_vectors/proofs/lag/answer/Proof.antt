@@ -2,6 +2,7 @@
 use mathlib.Core.Path.{sym, _∙_}
 use borrow.Author.Tests.{ne-eqb}
 use borrow.Author.Needs.{needs}
+use Rattle.linear.specs.Vector.{zeros2}
 use Rattle.rust_vectors.specs.Lag.{answer}
 use Rattle.rust_vectors.proofs.lag.answer.Statement.{statement}
 use Rattle.rust_vectors.proofs.lag.answer.Tie as tie
@@ -15,23 +16,17 @@ word-at-requires c κs = search needs
 step-requires : tie.Need-step-requires
 step-requires c κs = search needs
 
-zeros-requires : tie.Need-zeros-requires
-zeros-requires c κs = search needs
-
 invert-requires : tie.Need-invert-requires
 invert-requires c κs = search needs
 
 reset-requires : tie.Need-reset-requires
 reset-requires c κs = search needs
 
-zeros-requires-2 : tie.Need-zeros-requires-2
-zeros-requires-2 c κs = search needs
-
 returns : tie.Need-returns
-unfolding answer
+unfolding answer zeros2
 returns c =
-    let kind = c .before .before .before in
-    simp (c .zeros .ensures, c .before .step .ensures, kind .before .vec2-at .ensures, sym (kind .word-at .ensures) ∙ c .before .before .match .keys1)
+    let kind = c .before .before in
+    simp (c .step .ensures, kind .before .vec2-at .ensures, sym (kind .word-at .ensures) ∙ c .before .match .keys1)
 
 returns-2 : tie.Need-returns-2
 unfolding answer
@@ -40,10 +35,10 @@ returns-2 c =
     simp (c .invert .ensures, kind .before .vec2-at .ensures, sym (kind .word-at .ensures) ∙ c .before .match .keys2)
 
 returns-3 : tie.Need-returns-3
-unfolding answer
+unfolding answer zeros2
 returns-3 c =
-    let rest = c .before .before .match .rest in
-    simp (c .zeros2 .ensures, c .before .reset .ensures, sym (c .before .before .before .word-at .ensures), ne-eqb _ 0 (rest .0 .1), ne-eqb _ 1 (rest .1))
+    let rest = c .before .match .rest in
+    simp (c .reset .ensures, sym (c .before .before .word-at .ensures), ne-eqb _ 0 (rest .0 .1), ne-eqb _ 1 (rest .1))
 
 pub answer-spec : {M : Type 1} → statement M
 answer-spec =
@@ -52,10 +47,8 @@ answer-spec =
     vec2-at-requires
     word-at-requires
     step-requires
-    zeros-requires
     invert-requires
     reset-requires
-    zeros-requires-2
     returns
     returns-2
     returns-3)

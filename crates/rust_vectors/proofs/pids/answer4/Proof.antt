@@ -2,6 +2,7 @@
 use mathlib.Core.Path.{sym, _∙_}
 use borrow.Author.Tests.{ne-eqb}
 use borrow.Author.Needs.{needs}
+use Rattle.linear.specs.Vector.{zeros4}
 use Rattle.rust_vectors.specs.Pids.{answer4}
 use Rattle.rust_vectors.proofs.pids.answer4.Statement.{statement}
 use Rattle.rust_vectors.proofs.pids.answer4.Tie as tie
@@ -27,9 +28,6 @@ vec4-at-requires-3 c κs = search needs
 calculate-with-derivative-requires : tie.Need-calculate-with-derivative-requires
 calculate-with-derivative-requires c κs = search needs
 
-zeros-requires : tie.Need-zeros-requires
-zeros-requires c κs = search needs
-
 reset-requires : tie.Need-reset-requires
 reset-requires c κs = search needs
 
@@ -48,8 +46,8 @@ returns-2 c =
     simp (c .calculate-with-derivative .ensures, c .before .vec4-at3 .ensures, kind .before .float-at .ensures, process .vec4-at2 .ensures, process .before .vec4-at .ensures, sym (kind .word-at .ensures) ∙ c .before .before .match .keys2)
 
 returns-3 : tie.Need-returns-3
-unfolding answer4
-returns-3 c = let rest = c .before .before .match .rest in simp (c .reset .ensures, c .before .zeros .ensures, sym (c .before .before .before .word-at .ensures), ne-eqb _ 0 (rest .0 .1), ne-eqb _ 1 (rest .1))
+unfolding answer4 zeros4
+returns-3 c = let rest = c .before .match .rest in simp (c .reset .ensures, sym (c .before .before .word-at .ensures), ne-eqb _ 0 (rest .0 .1), ne-eqb _ 1 (rest .1))
 
 pub answer4-spec : {M : Type 1} → statement M
 answer4-spec =
@@ -62,7 +60,6 @@ answer4-spec =
     calculate-requires
     vec4-at-requires-3
     calculate-with-derivative-requires
-    zeros-requires
     reset-requires
     returns
     returns-2
