@@ -1,6 +1,7 @@
 // The controller, made by `new`, and its parts for readers. The calls are in the modules of their names.
 ghost use mathlib.Core.Path.{_≡_};
 ghost use Rattle.tick_length.specs.TickLength.{refusalOf};
+ghost use Rattle.tick_parts.specs.Outputs.{noOutputs};
 ghost use Rattle.vision_gate.specs.Vision.{active};
 ghost use Rattle.divergence.specs.Divergence.{isRecovering};
 ghost use Rattle.body_controller.specs.Controller.{started, newOf, newNumber, resetOf};
@@ -11,8 +12,8 @@ use call_answers::Steered;
 use commands::ManeuverCommand;
 use control_context::ControlContext;
 use control_context::Planned;
+use linear::Vector6f;
 use linear::ZEROS_3;
-use linear::ZEROS_6;
 use plan_answer::PlanAnswer;
 use tick_length::TickLength;
 use tick_length::TickLengthAnswer;
@@ -31,27 +32,37 @@ pub const STEER: u8 = 2;
 
 pub const FINISH: u8 = 3;
 
+fn no_outputs() -> Outputs
+    ensures { λ r. ⌜ r ≡ noOutputs ⌝ }
+{
+    NO_OUTPUTS
+}
+
 impl BodyController {
     // The Rust's new controller, with nothing counted, at sight's turn.
     fn start(choices: Choices) -> BodyController
         ensures { λ r. ⌜ r ≡ started choices ⌝ }
     {
+        let zeros = ZEROS_3;
         BodyController {
             choices,
-            context: ControlContext::new(ZEROS_6),
+            context: ControlContext::new(Vector6f {
+                pose: zeros,
+                twist: zeros,
+            }),
             turn: SIGHT,
             planned: Planned {
                 answer: PlanAnswer::Hold,
                 cmd: ManeuverCommand::Off,
             },
             steered: Steered {
-                body_twist: ZEROS_3,
-                body_accel: ZEROS_3,
+                body_twist: zeros,
+                body_accel: zeros,
                 vel_clamped: false,
                 cos: 0.0,
                 sin: 0.0,
             },
-            outputs: NO_OUTPUTS,
+            outputs: no_outputs(),
             ticks: 0,
             counts: NO_COUNTS,
         }
@@ -125,8 +136,7 @@ impl BodyController {
         let context = self.context;
         self.context = ControlContext::new(context.state_estimate);
         self.turn = SIGHT;
-        let outputs = NO_OUTPUTS;
-        self.outputs = outputs;
+        self.outputs = no_outputs();
         self
     }
 }

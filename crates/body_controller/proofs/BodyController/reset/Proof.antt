@@ -1,7 +1,5 @@
 -- `body_controller::BodyController::reset` meets its contract. Assumes nothing.
 use borrow.Author.Needs.{needs}
-use Rattle.linear.specs.Vector.{zeros3, zeros4}
-use Rattle.tick_parts.specs.Outputs.{noOutputs}
 use Rattle.body_controller.specs.Controller.{resetOf}
 use Rattle.body_controller.proofs.BodyController.reset.Statement.{statement}
 use Rattle.body_controller.proofs.BodyController.reset.Tie as tie
@@ -9,9 +7,12 @@ use Rattle.body_controller.proofs.BodyController.reset.Tie as tie
 new-requires : tie.Need-new-requires
 new-requires c κs = search needs
 
+no-outputs-requires : tie.Need-no-outputs-requires
+no-outputs-requires c κs = search needs
+
 returns : tie.Need-returns
-unfolding resetOf zeros3 zeros4 noOutputs
-returns c = simp (c .new .ensures)
+unfolding resetOf
+returns c = simp (c .before .new .ensures, c .no-outputs .ensures)
 
 pub reset-spec : {M : Type 1} → statement M
-reset-spec = tie.close (tie.spec new-requires returns)
+reset-spec = tie.close (tie.spec new-requires no-outputs-requires returns)
