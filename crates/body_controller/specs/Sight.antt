@@ -6,8 +6,8 @@ use Rattle.tick_length.specs.TickLength.{secondsOf}
 use Rattle.gate_action.specs.declared.GateAction.{GateAction}
 use Rattle.gate_action.specs.Outcome.{takes, overwrites}
 use Rattle.prediction.specs.Prediction.{predictedAfter}
-use Rattle.control_context.specs.declared.Seen.{Seen}
-use Rattle.control_context.specs.Context.{seen}
+use Rattle.context_sight.specs.declared.Seen.{Seen}
+use Rattle.context_sight.specs.Sight.{seen}
 use Rattle.body_controller.specs.declared.BodyController.{BodyController}
 use Rattle.tick_parts.specs.declared.Refusal.{Refusal}
 use Rattle.tick_parts.specs.declared.Refusal.the-variants.{OutOfTurn, TickLimit}

@@ -9,6 +9,7 @@ use crate::Sighted;
 use crate::controller::PLAN;
 use crate::controller::SIGHT;
 use call_inputs::SightInput;
+use context_sight::see;
 use gate_action::GateAction;
 use prediction::predict_after;
 use tick_parts::Refusal;
@@ -46,7 +47,8 @@ impl BodyController {
     fn see(mut self, i: SightInput) -> SightResult
         ensures { λ r. ⌜ r ≡ sighted self i ⌝ }
     {
-        let seen = self.context.see(
+        let seen = see(
+            self.context,
             i.vision_update,
             i.vision_pose_meas,
             i.predicted_state,

@@ -1,8 +1,8 @@
--- `control_context::ControlContext::see` meets its contract. Assumes nothing.
+-- `context_sight::see` meets its contract. Assumes nothing.
 use borrow.Author.Needs.{needs}
-use Rattle.control_context.specs.Context.{seen}
-use Rattle.control_context.proofs.ControlContext.see.Statement.{statement}
-use Rattle.control_context.proofs.ControlContext.see.Tie as tie
+use Rattle.context_sight.specs.Sight.{seen}
+use Rattle.context_sight.proofs.see.Statement.{statement}
+use Rattle.context_sight.proofs.see.Tie as tie
 
 update-requires : tie.Need-update-requires
 update-requires c κs = search needs

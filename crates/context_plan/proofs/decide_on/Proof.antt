@@ -1,8 +1,8 @@
--- `control_context::ControlContext::decide_on` meets its contract. Assumes nothing.
+-- `context_plan::decide_on` meets its contract. Assumes nothing.
 use borrow.Author.Needs.{needs}
-use Rattle.control_context.specs.Context.{decidedOn}
-use Rattle.control_context.proofs.ControlContext.decide_on.Statement.{statement}
-use Rattle.control_context.proofs.ControlContext.decide_on.Tie as tie
+use Rattle.context_plan.specs.Plan.{decidedOn}
+use Rattle.context_plan.proofs.decide_on.Statement.{statement}
+use Rattle.context_plan.proofs.decide_on.Tie as tie
 
 recovering-requires : tie.Need-recovering-requires
 recovering-requires c κs = search needs
