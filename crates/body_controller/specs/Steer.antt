@@ -5,7 +5,7 @@ use lib.Ieee.{Float}
 use Rattle.linear.specs.declared.Vector6f.{Vector6f}
 use Rattle.tick_length.specs.TickLength.{secondsOf}
 use Rattle.plan_answer.specs.Answer.{needsPlan}
-use Rattle.tracking.specs.declared.ManeuverSetpoints.{ManeuverSetpoints}
+use Rattle.setpoints.specs.declared.ManeuverSetpoints.{ManeuverSetpoints}
 use Rattle.stop.specs.Stop.{stopScaled}
 use Rattle.limits.specs.Limits.{twistClamped}
 use Rattle.friction.specs.Friction.{frictionTwist}

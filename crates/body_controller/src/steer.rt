@@ -14,9 +14,9 @@ use context_steer::steer;
 use friction::friction_twist;
 use limits::clamp_twist;
 use linear::Vector6f;
+use setpoints::ManeuverSetpoints;
 use stop::stop_scaled;
 use tick_parts::Refusal;
-use tracking::ManeuverSetpoints;
 
 // The tick's setpoints, limited, and the friction twist.
 fn limit(

@@ -9,7 +9,7 @@ use Rattle.vision_gate.specs.declared.VisionAnswer.{VisionAnswer}
 use Rattle.gate_action.specs.Outcome.{overwrites}
 use Rattle.vision_gate.specs.Vision.{visionAfter}
 use Rattle.plan_memory.specs.Memory.{emptyMemory}
-use Rattle.tracking.specs.Setpoints.{emptyPid}
+use Rattle.setpoints.specs.Setpoints.{emptyPid}
 use Rattle.control_context.specs.declared.ControlContext.{ControlContext}
 use Rattle.context_sight.specs.declared.Seen.{Seen}
 

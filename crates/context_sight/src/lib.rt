@@ -6,7 +6,7 @@ use gate_action::GateAction;
 use linear::Vector3f;
 use linear::Vector6f;
 use plan_memory::Memory;
-use tracking::PidMemory;
+use setpoints::EMPTY_PID;
 
 // The outcome, beside the context as sight leaves it.
 pub struct Seen {
@@ -33,7 +33,8 @@ pub fn see(
     context.wheels_disabled = false;
     if action.overwrites() {
         context.memory = Memory::empty();
-        context.pose_pid = PidMemory::empty();
+        let pose_pid = EMPTY_PID;
+        context.pose_pid = pose_pid;
         return Seen { action, context };
     }
     Seen { action, context }

@@ -4,7 +4,7 @@ use Rattle.linear.specs.declared.Vector6f.{Vector6f}
 use Rattle.vision_gate.specs.Vision.{newVision}
 use Rattle.plan_memory.specs.Memory.{emptyMemory, trajectoryDropped}
 use Rattle.divergence.specs.declared.TrackingDivergenceState.the-variants.{Normal}
-use Rattle.tracking.specs.Setpoints.{emptyPid}
+use Rattle.setpoints.specs.Setpoints.{emptyPid}
 use Rattle.control_context.specs.declared.ControlContext.{ControlContext}
 
 -- 'as the Rust's new controller does', around an estimate; wheels are disabled and the previous mode is off

@@ -6,7 +6,7 @@ use crate::Divergence;
 use divergence::TrackingDivergenceState;
 use linear::Vector6f;
 use plan_memory::Memory;
-use tracking::PidMemory;
+use setpoints::EMPTY_PID;
 use vision_gate::Vision;
 
 impl ControlContext {
@@ -20,7 +20,7 @@ impl ControlContext {
             divergence: Divergence {
                 state: TrackingDivergenceState::Normal,
             },
-            pose_pid: PidMemory::empty(),
+            pose_pid: EMPTY_PID,
             state_estimate,
             prev_mode: 0,
             wheels_disabled: true,

@@ -8,7 +8,7 @@ use divergence::TrackingDivergenceState;
 use linear::Vector6f;
 use plan_answer::PlanAnswer;
 use plan_memory::Memory;
-use tracking::PidMemory;
+use setpoints::PidMemory;
 use vision_gate::Vision;
 
 // `tracking_divergence_state`, in a struct of its own, as a field that is an enum can't be set.

@@ -1,5 +1,7 @@
 -- `context_sight::see` meets its contract. Assumes nothing.
 use borrow.Author.Needs.{needs}
+use Rattle.linear.specs.Vector.{zeros3}
+use Rattle.setpoints.specs.Setpoints.{emptyPid}
 use Rattle.context_sight.specs.Sight.{seen}
 use Rattle.context_sight.proofs.see.Statement.{statement}
 use Rattle.context_sight.proofs.see.Tie as tie
@@ -13,12 +15,9 @@ overwrites-requires c κs = search needs
 empty-requires : tie.Need-empty-requires
 empty-requires c κs = search needs
 
-empty-requires-2 : tie.Need-empty-requires-2
-empty-requires-2 c κs = search needs
-
 returns : tie.Need-returns
-unfolding seen
-returns c = rw (← c .before .before .before .before .before .update .ensures, ← c .before .before .before .overwrites .ensures, ← c .before .empty .ensures, ← c .empty2 .ensures, c .before .before .if1 .taken)
+unfolding seen emptyPid zeros3
+returns c = rw (← c .before .before .before .before .update .ensures, ← c .before .before .overwrites .ensures, ← c .empty .ensures, c .before .if1 .taken)
 
 returns-2 : tie.Need-returns-2
 unfolding seen
@@ -31,6 +30,5 @@ see-spec =
     update-requires
     overwrites-requires
     empty-requires
-    empty-requires-2
     returns
     returns-2)
