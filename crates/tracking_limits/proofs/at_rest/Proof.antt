@@ -1,8 +1,8 @@
--- `recovery::at_rest` meets its contract. Assumes nothing.
+-- `tracking_limits::at_rest` meets its contract. Assumes nothing.
 use borrow.Author.Needs.{needs}
-use Rattle.recovery.specs.Recovery.{atRest}
-use Rattle.recovery.proofs.at_rest.Statement.{statement}
-use Rattle.recovery.proofs.at_rest.Tie as tie
+use Rattle.tracking_limits.specs.Limits.{atRest}
+use Rattle.tracking_limits.proofs.at_rest.Statement.{statement}
+use Rattle.tracking_limits.proofs.at_rest.Tie as tie
 
 abs-requires : tie.Need-abs-requires
 abs-requires c κs = search needs

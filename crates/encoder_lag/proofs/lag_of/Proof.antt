@@ -1,10 +1,10 @@
--- `first_order_lag::FirstOrderLag::new_from_horizon` meets its contract. Assumes nothing.
+-- `encoder_lag::lag_of` meets its contract. Assumes nothing.
 use borrow.Author.Needs.{needs}
 use Rattle.linear.specs.Vector.{zeros2}
-use Rattle.first_order_lag.specs.FirstOrderLag.{dtOf, newLag}
-use Rattle.first_order_lag.proofs.Range.{horizon-castable}
-use Rattle.first_order_lag.proofs.FirstOrderLag.new_from_horizon.Statement.{statement}
-use Rattle.first_order_lag.proofs.FirstOrderLag.new_from_horizon.Tie as tie
+use Rattle.encoder_lag.specs.EncoderLag.{dtOf, newLag}
+use Rattle.encoder_lag.proofs.Range.{horizon-castable}
+use Rattle.encoder_lag.proofs.lag_of.Statement.{statement}
+use Rattle.encoder_lag.proofs.lag_of.Tie as tie
 
 micros-requires : tie.Need-micros-requires
 micros-requires c κs = search needs
@@ -31,8 +31,8 @@ returns c =
       c .before .before .before .micros .ensures,
     )
 
-pub new-from-horizon-spec : {M : Type 1} → statement M
-new-from-horizon-spec =
+pub lag-of-spec : {M : Type 1} → statement M
+lag-of-spec =
     tie.close
     (tie.spec
     micros-requires

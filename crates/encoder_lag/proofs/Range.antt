@@ -9,7 +9,7 @@ use lib.Ieee.{Float, fin, ofInt, ofBits, add, mul, div, lt}
 use lib.Ieee.Fits.{and-l, and-r}
 use Rattle.tick_length.specs.TickLength.{isTickLength, microsOf}
 use Rattle.tick_length.proofs.Sweep.{everyTo, at-tick-length}
-use Rattle.first_order_lag.specs.FirstOrderLag.{durationToSecs, horizonOver, Castable, dtOf}
+use Rattle.encoder_lag.specs.EncoderLag.{durationToSecs, horizonOver, Castable, dtOf}
 
 -- `Castable` as a test
 inRange : Float → Bool

@@ -1,8 +1,8 @@
--- `first_order_lag::duration_to_secs` meets its contract. Assumes nothing.
+-- `encoder_lag::duration_to_secs` meets its contract. Assumes nothing.
 use borrow.Author.Needs.{needs}
-use Rattle.first_order_lag.specs.FirstOrderLag.{durationToSecs}
-use Rattle.first_order_lag.proofs.duration_to_secs.Statement.{statement}
-use Rattle.first_order_lag.proofs.duration_to_secs.Tie as tie
+use Rattle.encoder_lag.specs.EncoderLag.{durationToSecs}
+use Rattle.encoder_lag.proofs.duration_to_secs.Statement.{statement}
+use Rattle.encoder_lag.proofs.duration_to_secs.Tie as tie
 
 nearest-u32-to-f32-requires : tie.Need-nearest-u32-to-f32-requires
 nearest-u32-to-f32-requires c κs = search needs

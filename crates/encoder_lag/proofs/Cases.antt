@@ -3,8 +3,8 @@ use mathlib.Core.Path.{_≡_, refl}
 use mathlib.Core.List.{[], _∷_, map}
 use lib.Ieee.{ofInt, ofBits, toUnsigned, add, mul, div}
 use Rattle.tick_length.specs.TickLength.{microsOf}
-use Rattle.first_order_lag.specs.declared.FirstOrderLagAnswer.the-variants.{Made}
-use Rattle.first_order_lag.specs.FirstOrderLag.{durationToSecs, horizonOver, nStepsOf, dtOf, newLag, lagOf, refusalNumber}
+use Rattle.encoder_lag.specs.declared.FirstOrderLagAnswer.the-variants.{Made}
+use Rattle.encoder_lag.specs.EncoderLag.{durationToSecs, horizonOver, nStepsOf, dtOf, newLag, lagOf, refusalNumber}
 
 -- k 0 and 65: 1
 pub zero-refused : refusalNumber (lagOf 0) ≡ 1

@@ -1,9 +1,9 @@
--- `first_order_lag::n_steps_of` meets its contract. Assumes nothing.
+-- `encoder_lag::n_steps_of` meets its contract. Assumes nothing.
 use native.Mathlib.Omega.{arith}
 use borrow.Author.Needs.{needs}
-use Rattle.first_order_lag.specs.FirstOrderLag.{horizonOver, nStepsOf}
-use Rattle.first_order_lag.proofs.n_steps_of.Statement.{statement}
-use Rattle.first_order_lag.proofs.n_steps_of.Tie as tie
+use Rattle.encoder_lag.specs.EncoderLag.{horizonOver, nStepsOf}
+use Rattle.encoder_lag.proofs.n_steps_of.Statement.{statement}
+use Rattle.encoder_lag.proofs.n_steps_of.Tie as tie
 
 duration-to-secs-requires : tie.Need-duration-to-secs-requires
 duration-to-secs-requires c κs = search needs
