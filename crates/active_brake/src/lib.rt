@@ -73,26 +73,24 @@ impl ActiveBrakeController {
     }
 
     // The braking currents for the measured wheel speeds in rad/s.
-    pub fn compute(self, wheel_vel_meas: Vector4f) -> BrakeAnswer
+    pub fn compute(mut self, wheel_vel_meas: Vector4f) -> BrakeAnswer
         ensures { λ r. ⌜ r ≡ computed self «wheel_vel_meas» ⌝ }
     {
-        let tick = self.tick;
-        let answer = self.pid.calculate(ZEROS_4, wheel_vel_meas, tick.seconds());
+        let answer = self.pid
+            .calculate(ZEROS_4, wheel_vel_meas, self.tick.seconds());
         let currents = answer.output;
         let pid = answer.controller;
+        self.pid = pid;
         BrakeAnswer {
             currents,
-            controller: ActiveBrakeController { pid, tick },
+            controller: self,
         }
     }
 
-    pub fn reset(self) -> ActiveBrakeController
+    pub fn reset(mut self) -> ActiveBrakeController
         ensures { λ r. ⌜ r ≡ resetBrake self ⌝ }
     {
-        let tick = self.tick;
-        ActiveBrakeController {
-            pid: self.pid.reset(),
-            tick,
-        }
+        self.pid = self.pid.reset();
+        self
     }
 }

@@ -5,8 +5,8 @@ use Rattle.commands.specs.declared.ManeuverCommand.{ManeuverCommand}
 use Rattle.commands.specs.declared.CommandAnswer.{CommandAnswer}
 use Rattle.commands.specs.declared.CommandAnswer.the-variants as Command
 use Rattle.commands.specs.Command.{isMode, commandFrom}
-use Rattle.control_context.specs.declared.Decided.{Decided}
-use Rattle.control_context.specs.Context.{decidedOn}
+use Rattle.context_plan.specs.declared.Decided.{Decided}
+use Rattle.context_plan.specs.Plan.{decidedOn}
 use Rattle.body_controller.specs.declared.BodyController.{BodyController}
 use Rattle.call_inputs.specs.declared.PlanInput.{PlanInput}
 use Rattle.body_controller.specs.declared.PlanCallAnswer.{PlanCallAnswer}

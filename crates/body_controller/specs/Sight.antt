@@ -3,8 +3,8 @@ use Prim.Native.Nat.{ℕ, _+_, _%_, _^_}
 use mathlib.Core.Bool.{cond}
 use lib.Dec.{ltb}
 use Rattle.tick_length.specs.TickLength.{secondsOf}
-use Rattle.control_context.specs.declared.Seen.{Seen}
-use Rattle.control_context.specs.Context.{seen}
+use Rattle.context_sight.specs.declared.Seen.{Seen}
+use Rattle.context_sight.specs.Sight.{seen}
 use Rattle.body_controller.specs.declared.BodyController.{BodyController}
 use Rattle.tick_parts.specs.declared.Refusal.{Refusal}
 use Rattle.tick_parts.specs.declared.Refusal.the-variants.{OutOfTurn, TickLimit}

@@ -10,6 +10,7 @@ use crate::controller::STEER;
 use call_inputs::PlanInput;
 use commands::CommandAnswer;
 use commands::ManeuverCommand;
+use context_plan::decide_on;
 use control_context::Planned;
 use tick_parts::Refusal;
 
@@ -18,8 +19,7 @@ impl BodyController {
     fn decide(mut self, i: PlanInput, cmd: ManeuverCommand) -> PlanResult
         ensures { λ r. ⌜ r ≡ planned self i cmd ⌝ }
     {
-        let decided = self.context
-            .decide_on(i.mode, i.halt, cmd, i.state_estimate);
+        let decided = decide_on(self.context, i.mode, i.halt, cmd, i.state_estimate);
         let answer = decided.answer;
         let context = decided.context;
         let planned = Planned { answer, cmd };

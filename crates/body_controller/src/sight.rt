@@ -8,6 +8,7 @@ use crate::controller::PLAN;
 use crate::controller::SIGHT;
 use call_answers::sight::sight_answer;
 use call_inputs::SightInput;
+use context_sight::see;
 use tick_parts::Refusal;
 
 // Ticks that a controller can count.
@@ -18,7 +19,8 @@ impl BodyController {
     fn see(mut self, i: SightInput) -> SightResult
         ensures { λ r. ⌜ r ≡ sighted self i ⌝ }
     {
-        let seen = self.context.see(
+        let seen = see(
+            self.context,
             i.vision_update,
             i.vision_pose_meas,
             i.predicted_state,

@@ -11,8 +11,8 @@ use Rattle.tick_length.specs.TickLength.{isTickLength, tickLengthOf}
 use Rattle.tick_length.proofs.Cases as Length
 use Rattle.active_brake.specs.Brake.{brakeOf}
 use Rattle.active_brake.proofs.Cases as Brake
-use Rattle.first_order_lag.specs.FirstOrderLag.{lagOf}
-use Rattle.first_order_lag.proofs.Cases as Lag
+use Rattle.encoder_lag.specs.EncoderLag.{lagOf}
+use Rattle.encoder_lag.proofs.Cases as Lag
 use Rattle.vision_gate.proofs.Cases as Gate
 use Rattle.limits.proofs.Cases as Limits
 use Rattle.body_controller.specs.Controller.{newOf}

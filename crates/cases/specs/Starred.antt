@@ -11,7 +11,7 @@ use Rattle.linear.specs.Vector.{zeroFloat}
 use Rattle.tick_length.specs.TickLength.{isTickLength, secondsOf, microsOf}
 use Rattle.pid.specs.Axis.{calculated}
 use Rattle.active_brake.specs.Brake as Brake
-use Rattle.first_order_lag.specs.FirstOrderLag as Lag
+use Rattle.encoder_lag.specs.EncoderLag as Lag
 use Rattle.vision_gate.specs.Vision.{active}
 use Rattle.vision_gate.specs.Since.{clockSince}
 use Rattle.limits.specs.Limits.{twistClamped}

@@ -12,7 +12,8 @@ use Rattle.plan_memory.specs.Memory.{afterTracking, heldOr}
 use Rattle.recovery.specs.declared.HeldState.{HeldState}
 use Rattle.recovery.specs.declared.HeldState.the-variants as States
 use Rattle.recovery.specs.declared.RecoveryAnswer.{RecoveryAnswer}
-use Rattle.tracking.specs.Setpoints.{zeroSetpoints, trackingSetpoints}
+use Rattle.setpoints.specs.Setpoints.{zeroSetpoints}
+use Rattle.tracking.specs.Setpoints.{trackingSetpoints}
 use Rattle.recovery.specs.Recovery.{recovery}
 use Rattle.control_context.specs.declared.ControlContext.{ControlContext}
 use Rattle.control_context.specs.declared.Planned.{Planned}

@@ -12,7 +12,8 @@ use plan_memory::Memory;
 use plan_memory::Sample;
 use recovery::HeldState;
 use recovery::update_tracking_divergence_recovery;
-use tracking::ManeuverSetpoints;
+use setpoints::ManeuverSetpoints;
+use setpoints::ZERO_SETPOINTS;
 use tracking::calc_tracking_setpoints;
 
 // Setpoints, beside the context as steer leaves it.
@@ -66,13 +67,13 @@ fn follow(context: ControlContext, p: Planned, fresh: Sample, next: Sample, dt: 
     match answer {
         PlanAnswer::Hold => {
             return Tracked {
-                setpoints: ManeuverSetpoints::zero(),
+                setpoints: ZERO_SETPOINTS,
                 context,
             };
         }
         PlanAnswer::NoVision => {
             return Tracked {
-                setpoints: ManeuverSetpoints::zero(),
+                setpoints: ZERO_SETPOINTS,
                 context,
             };
         }

@@ -1,17 +1,12 @@
-// A context: new, reset, and what sight and plan do to it.
+// A context: new, reset, and after a planner failure.
 ghost use mathlib.Core.Path.{_≡_};
-ghost use Rattle.control_context.specs.Context.{newContext, contextReset, plannerFailed, seen, decidedOn};
+ghost use Rattle.control_context.specs.Context.{newContext, contextReset, plannerFailed};
 use crate::ControlContext;
-use crate::Decided;
 use crate::Divergence;
-use crate::Seen;
-use commands::ManeuverCommand;
 use divergence::TrackingDivergenceState;
-use linear::Vector3f;
 use linear::Vector6f;
-use maneuvers::decide;
 use plan_memory::Memory;
-use tracking::PidMemory;
+use setpoints::EMPTY_PID;
 use vision_gate::Vision;
 
 impl ControlContext {
@@ -25,7 +20,7 @@ impl ControlContext {
             divergence: Divergence {
                 state: TrackingDivergenceState::Normal,
             },
-            pose_pid: PidMemory::empty(),
+            pose_pid: EMPTY_PID,
             state_estimate,
             prev_mode: 0,
             wheels_disabled: true,
@@ -48,70 +43,5 @@ impl ControlContext {
     {
         self.memory = self.memory.drop_trajectory();
         self
-    }
-
-    // Sight enables the wheels; where its outcome overwrites, both memories are dropped.
-    pub fn see(
-        mut self,
-        vision_update: bool,
-        vision_pose_meas: Vector3f,
-        predicted_state: Vector6f,
-        dt: f32,
-    ) -> Seen
-        ensures { λ r. ⌜ r ≡ seen self «vision_update» «vision_pose_meas» «predicted_state» dt ⌝ }
-    {
-        let answer = self.vision
-            .update(vision_update, vision_pose_meas, predicted_state, dt);
-        let action = answer.action;
-        let vision = answer.vision;
-        self.vision = vision;
-        self.wheels_disabled = false;
-        if action.overwrites() {
-            self.memory = Memory::empty();
-            self.pose_pid = PidMemory::empty();
-            return Seen {
-                action,
-                context: self,
-            };
-        }
-        Seen {
-            action,
-            context: self,
-        }
-    }
-
-    // Plan sets the estimate and decides on the command.
-    pub fn decide_on(
-        mut self,
-        mode: u32,
-        halt: bool,
-        cmd: ManeuverCommand,
-        state_estimate: Vector6f,
-    ) -> Decided
-        ensures { λ r. ⌜ r ≡ decidedOn self mode halt cmd «state_estimate» ⌝ }
-    {
-        let divergence = self.divergence;
-        let state = divergence.state;
-        let decision = decide(
-            mode,
-            halt,
-            state.recovering(),
-            self.vision.vision_active(),
-            cmd,
-            self.memory,
-            self.prev_mode,
-            state_estimate,
-        );
-        let answer = decision.answer;
-        let memory = decision.memory;
-        let disabled = answer.disables_wheels();
-        self.state_estimate = state_estimate;
-        self.memory = memory;
-        self.prev_mode = decision.prev_mode;
-        self.wheels_disabled = self.wheels_disabled | disabled;
-        Decided {
-            answer,
-            context: self,
-        }
     }
 }

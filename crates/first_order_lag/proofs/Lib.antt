@@ -1,4 +1,2 @@
--- Laws that belong to no one function, and document 01's starred cases. Assumes nothing.
-pub mod Range
+-- Laws that belong to no one function. Assumes nothing.
 pub mod Laws
-pub mod Cases

@@ -1,18 +1,9 @@
-// `FirstOrderLag` of lib-stm32's model/mod.rs over two axes, by value: the encoder lag that
-// control_context.rs makes for a tick length.
+// `FirstOrderLag` of lib-stm32's model/mod.rs over two axes, by value.
 ghost use mathlib.Core.Path.{_≡_};
-ghost use mathlib.Core.Bool.{true};
-ghost use Rattle.tick_length.specs.TickLength.{isTickLength, refusalOf};
-ghost use Rattle.first_order_lag.specs.FirstOrderLag.{durationToSecs, horizonOver, Castable, nStepsOf, newLag, lagOf, refusalNumber, xAxis, yAxis, resetOf, steppedOf, invertedOf};
-use controller_params::ENC_LAG_K;
-use controller_params::ENC_LAG_T_HORIZON;
-use controller_params::ENC_LAG_T_SLOPE;
-use controller_params::T_MIN_DEFAULT;
+ghost use Rattle.first_order_lag.specs.FirstOrderLag.{xAxis, yAxis, resetOf, steppedOf, invertedOf};
 use lag_axis::Axis;
 use linear::Vector2f;
 use linear::ZEROS_2;
-use tick_length::TickLength;
-use tick_length::TickLengthAnswer;
 
 pub struct FirstOrderLagParams {
     pub k: Vector2f,
@@ -27,62 +18,7 @@ pub struct FirstOrderLag {
     pub state: Vector2f,
 }
 
-// A lag, or document 01's refusal 1: k is not from 1 to 64.
-pub enum FirstOrderLagAnswer {
-    Made(FirstOrderLag),
-    Refused,
-}
-
-fn duration_to_secs(micros: u32) -> f32
-    ensures { λ r. ⌜ r ≡ durationToSecs micros ⌝ }
-{
-    std::num::nearest_u32_to_f32(micros) * 1e-6
-}
-
-// The horizon in timesteps, rounded to the nearest whole number, and 1 at least.
-fn n_steps_of(dt_secs: f32) -> usize
-    requires { ⌜ Castable (horizonOver «dt_secs») ⌝ }
-    ensures { λ r. ⌜ r ≡ nStepsOf «dt_secs» ⌝ }
-{
-    let steps = duration_to_secs(ENC_LAG_T_HORIZON) / dt_secs + 0.5;
-    let n = std::num::truncating_f32_to_u64(steps) as usize;
-    if n < 1 { 1 } else { n }
-}
-
 impl FirstOrderLag {
-    // What control_context.rs makes by `new_from_horizon`, at rest.
-    pub fn new(k: u32) -> FirstOrderLagAnswer
-        ensures { λ r. ⌜ (r ≡ lagOf k) × (refusalNumber r ≡ refusalOf k) ⌝ }
-    {
-        match TickLength::new(k) {
-            TickLengthAnswer::Made(t) => FirstOrderLagAnswer::Made(Self::new_from_horizon(t)),
-            TickLengthAnswer::Refused => FirstOrderLagAnswer::Refused,
-        }
-    }
-
-    fn new_from_horizon(t: TickLength) -> Self
-        requires { ⌜ isTickLength (t .k) ≡ true ⌝ }
-        ensures { λ r. ⌜ r ≡ newLag (t .k) ⌝ }
-    {
-        let dt = duration_to_secs(t.micros());
-        Self {
-            params: FirstOrderLagParams {
-                k: Vector2f {
-                    x: ENC_LAG_K,
-                    y: ENC_LAG_K,
-                },
-                t_slope: Vector2f {
-                    x: ENC_LAG_T_SLOPE,
-                    y: ENC_LAG_T_SLOPE,
-                },
-            },
-            t_min: duration_to_secs(T_MIN_DEFAULT),
-            dt,
-            n_steps: n_steps_of(dt),
-            state: ZEROS_2,
-        }
-    }
-
     pub fn state(self) -> Vector2f
         ensures { λ r. ⌜ r ≡ self .state ⌝ }
     {

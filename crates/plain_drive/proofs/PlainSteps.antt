@@ -22,7 +22,8 @@ use Rattle.divergence.specs.declared.TrackingDivergenceState.the-variants.{Norm
 use Rattle.recovery.specs.declared.HeldState.{HeldState}
 use Rattle.recovery.specs.declared.RecoveryAnswer.{RecoveryAnswer}
 use Rattle.divergence.specs.Divergence.{isRecovering}
-use Rattle.recovery.specs.Recovery.{trackingErrorExceeded, atRest, recovery}
+use Rattle.tracking_limits.specs.Limits.{atRest}
+use Rattle.recovery.specs.Recovery.{trackingErrorExceeded, recovery}
 use Rattle.call_inputs.specs.declared.SightInput.{SightInput}
 use Rattle.call_inputs.specs.declared.PlanInput.{PlanInput}
 use Rattle.call_inputs.specs.declared.SteerInput.{SteerInput}

@@ -34,6 +34,8 @@ use Rattle.tick_parts.specs.Counts.{counted, countList}
 use Rattle.control_context.specs.declared.ControlContext.{ControlContext}
 use Rattle.context_steer.specs.declared.Tracked.{Tracked}
 use Rattle.control_context.specs.Context as Context
+use Rattle.context_sight.specs.Sight as ContextSight
+use Rattle.context_plan.specs.Plan as ContextPlan
 use Rattle.context_steer.specs.Steer as Tracking
 use Rattle.body_controller.specs.Turn.{isSight, isPlan, isSteer, isFinish}
 use Rattle.body_controller.specs.Controller.{resetOf}
@@ -121,7 +123,7 @@ module _ (c : BodyController) (i : SightInput) (ticks : c .ticks ≤ 16777216) (
   action = visionAfter (c .context .vision) (i .«vision_update») (i .«vision_pose_meas») (i .«predicted_state») dt .action
 
   sighted-follows : Follows c (Plain.seen dt (driveOf c) i) (sightReply (sighted c i .answer)) (sighted c i .controller)
-  unfolding sighted sightAnswer Context.seen visionAfter driveOf Plain.seen
+  unfolding sighted sightAnswer ContextSight.seen visionAfter driveOf Plain.seen
   sighted-follows = record {
     reply = refl;
     state = rw (dropped (overwrites action) (c .context .memory) .0, dropped (overwrites action) (c .context .memory) .1, grows (c .ticks) ticks, counted-grown (c .counts) action counts);
@@ -147,7 +149,7 @@ module _ (c : BodyController) (i : SightInput) (ticks : c .ticks ≤ 16777216) (
 module _ (c : BodyController) (i : PlanInput) where
   -- at plan's turn, by what the command's words gave
   command-follows : (a : CommandAnswer) → Follows c (Plain.onCommand a (driveOf c) i) (planReply (planWith a c i .answer)) (planWith a c i .controller)
-  unfolding driveOf planned planRefused Context.decidedOn Plain.decidedOn
+  unfolding driveOf planned planRefused ContextPlan.decidedOn Plain.decidedOn
   command-follows Command.Refused = record { reply = refl; state = refl; choices = refl }
   command-follows (Command.Given cmd) = go (i .«estimator_failed») refl
     where

@@ -1,7 +1,6 @@
 // Document 01, 'Steer': the tracking error, and what recovery makes of it.
 ghost use mathlib.Core.Path.{_≡_};
-ghost use Rattle.recovery.specs.Recovery.{trackingErrors, anyExceeds, trackingErrorExceeded, atRest, recovery};
-use controller_params::TRACKING_DIVERGENCE_RECOVERY_REST_WHEEL_VEL;
+ghost use Rattle.recovery.specs.Recovery.{trackingErrors, trackingErrorExceeded, recovery};
 use controller_params::TRACKING_ERROR_THRESHOLD;
 use controller_params::TrackingErrors;
 use divergence::TrackingDivergenceState;
@@ -10,6 +9,8 @@ use float_remainder::remainder;
 use linear::Vector4f;
 use linear::Vector6f;
 use planar::hypot_xy;
+use tracking_limits::any_exceeds;
+use tracking_limits::at_rest;
 use vectors::sub;
 
 // The state of the sample that is held, if one is.
@@ -38,16 +39,6 @@ fn tracking_errors(traj_state: Vector6f, estimate: Vector6f) -> TrackingErrors
     }
 }
 
-// NaN exceeds nothing.
-fn any_exceeds(error: TrackingErrors, limit: TrackingErrors) -> bool
-    ensures { λ r. ⌜ r ≡ anyExceeds error limit ⌝ }
-{
-    (error.pos_linear > limit.pos_linear)
-        | (error.pos_angular > limit.pos_angular)
-        | (error.vel_linear > limit.vel_linear)
-        | (error.vel_angular > limit.vel_angular)
-}
-
 // No error without a sample.
 fn tracking_error_exceeded(held: HeldState, estimate: Vector6f) -> bool
     ensures { λ r. ⌜ r ≡ trackingErrorExceeded held estimate ⌝ }
@@ -56,17 +47,6 @@ fn tracking_error_exceeded(held: HeldState, estimate: Vector6f) -> bool
         HeldState::Absent => false,
         HeldState::Held(s) => any_exceeds(tracking_errors(s, estimate), TRACKING_ERROR_THRESHOLD),
     }
-}
-
-// Every wheel is at rest; a NaN is not. One such tick is enough, as
-// TRACKING_DIVERGENCE_RECOVERY_REST_TICKS is 1.
-fn at_rest(wheels: Vector4f) -> bool
-    ensures { λ r. ⌜ r ≡ atRest wheels ⌝ }
-{
-    (abs(wheels.x) < TRACKING_DIVERGENCE_RECOVERY_REST_WHEEL_VEL)
-        & (abs(wheels.y) < TRACKING_DIVERGENCE_RECOVERY_REST_WHEEL_VEL)
-        & (abs(wheels.z) < TRACKING_DIVERGENCE_RECOVERY_REST_WHEEL_VEL)
-        & (abs(wheels.w) < TRACKING_DIVERGENCE_RECOVERY_REST_WHEEL_VEL)
 }
 
 // Judged on the sample that is held by then.

@@ -5,9 +5,10 @@ use mathlib.Core.List.{List}
 use lib.Dec.{eqb}
 use Rattle.linear.specs.Vector.{zeros2}
 use Rattle.first_order_lag.specs.declared.FirstOrderLag.{FirstOrderLag}
-use Rattle.first_order_lag.specs.declared.FirstOrderLagAnswer.{FirstOrderLagAnswer}
-use Rattle.first_order_lag.specs.declared.FirstOrderLagAnswer.the-variants.{Made, Refused}
-use Rattle.first_order_lag.specs.FirstOrderLag.{lagOf, steppedOf, invertedOf, resetOf}
+use Rattle.encoder_lag.specs.declared.FirstOrderLagAnswer.{FirstOrderLagAnswer}
+use Rattle.encoder_lag.specs.declared.FirstOrderLagAnswer.the-variants.{Made, Refused}
+use Rattle.encoder_lag.specs.EncoderLag.{lagOf}
+use Rattle.first_order_lag.specs.FirstOrderLag.{steppedOf, invertedOf, resetOf}
 use Rattle.block_words.specs.Word.{wordAt}
 use Rattle.block_floats.specs.Floats.{vector2At}
 use Rattle.rust_vectors.specs.declared.subject.Subject.{Subject}

@@ -6,8 +6,9 @@ use crate::subject::Subject;
 use crate::words::words2;
 use block_floats::vec2_at;
 use block_words::word_at;
+use encoder_lag::FirstOrderLagAnswer;
+use encoder_lag::new_from_horizon;
 use first_order_lag::FirstOrderLag;
-use first_order_lag::FirstOrderLagAnswer;
 use float_bits::to_bits;
 use linear::Vector2f;
 use linear::ZEROS_2;
@@ -33,7 +34,7 @@ fn is_wanted(l: FirstOrderLag, header: &[u8]) -> bool
 pub(crate) fn fresh(header: &[u8]) -> Subject
     ensures { λ r. ⌜ r ≡ fresh (now (header .entry)) ⌝ }
 {
-    match FirstOrderLag::new(word_at(header, 0)) {
+    match new_from_horizon(word_at(header, 0)) {
         FirstOrderLagAnswer::Made(l) => {
             if is_wanted(l, header) {
                 Subject::Lag(l)

@@ -17,7 +17,7 @@ use plan_memory::HeldSample;
 use plan_memory::Memory;
 use plan_memory::PrevCommand;
 use seeding::Seeding;
-use tracking::PidMemory;
+use setpoints::PidMemory;
 use vision_gate::Vision;
 
 fn put_seeding(words: &mut [u32; 96], s: Seeding) {

@@ -6,8 +6,9 @@ use Rattle.pid.specs.declared.AntiJitterThresh.the-variants.{Below}
 use Rattle.pid.specs.declared.OutputLimits.the-variants.{Absent}
 use Rattle.pid.specs.Axis.{newController, resetOf}
 use Rattle.pid_three.specs.Three.{reset3}
-use Rattle.tracking.specs.declared.PidMemory.{PidMemory}
-use Rattle.tracking.specs.Setpoints.{emptyPid, poseAxis, posePid, pidMemory}
+use Rattle.setpoints.specs.declared.PidMemory.{PidMemory}
+use Rattle.setpoints.specs.Setpoints.{emptyPid}
+use Rattle.tracking.specs.Setpoints.{poseAxis, posePid, pidMemory}
 
 pub starts-new : posePid emptyPid ≡ record {
   x = newController linearPosePidGains (Below (posePidAntiJitterThresh .x)) Absent;

@@ -10,19 +10,13 @@ use Rattle.controller_params.specs.Params.{linearPosePidGains, angularPosePidGa
 use Rattle.pid.specs.declared.AntiJitterThresh.the-variants.{Below}
 use Rattle.pid.specs.declared.OutputLimits.the-variants.{Absent}
 use Rattle.pid.specs.declared.PidController.{PidController}
+use Rattle.pid.specs.Axis.{calculatedWithDerivative}
 use Rattle.pid_three.specs.declared.PidController3.{PidController3}
 use Rattle.pid_three.specs.Three.{calculatedWithDerivative3}
-use Rattle.tracking.specs.declared.ManeuverSetpoints.{ManeuverSetpoints}
-use Rattle.tracking.specs.declared.PidMemory.{PidMemory}
+use Rattle.setpoints.specs.declared.PidMemory.{PidMemory}
+use Rattle.tracking.specs.declared.AxisAnswer.{AxisAnswer}
+use Rattle.tracking.specs.declared.PoseAnswer.{PoseAnswer}
 use Rattle.tracking.specs.declared.TrackingAnswer.{TrackingAnswer}
-
--- document 01, 'Plan': hold and no vision give zeros
-unfoldable pub zeroSetpoints : ManeuverSetpoints
-zeroSetpoints = record { «body_twist» = zeros3; «body_accel» = zeros3 }
-
--- what the PID remembers at the start and after its reset
-unfoldable pub emptyPid : PidMemory
-emptyPid = record { «prev_error» = zeros3; «integrated_error» = zeros3 }
 
 -- an axis with these gains and this threshold, no limits, and what it remembers
 unfoldable pub poseAxis : PidGains → Float → Float → Float → PidController
@@ -41,6 +35,18 @@ pidMemory c = record {
   «prev_error» = record { x = c .x .«prev_error»; y = c .y .«prev_error»; z = c .z .«prev_error» };
   «integrated_error» = record { x = c .x .«integrated_error»; y = c .y .«integrated_error»; z = c .z .«integrated_error» };
 }
+
+-- what one axis answers, and what it remembers
+unfoldable pub axisAnswered : PidController → Float → Float → Float → Float → AxisAnswer
+axisAnswered c s v d dt =
+    let a = calculatedWithDerivative c s v d dt in
+    record { output = a .output; «prev_error» = a .controller .«prev_error»; «integrated_error» = a .controller .«integrated_error» }
+
+-- what the PID of tracking answers, and what it remembers
+unfoldable pub poseAnswered : PidMemory → Vector3f → Vector3f → Vector3f → Float → PoseAnswer
+poseAnswered m s v d dt =
+    let a = calculatedWithDerivative3 (posePid m) s v d dt in
+    record { output = a .output; pid = pidMemory (a .controller) }
 
 -- 'Steer', `calc_tracking_setpoints`: the sample's place, its heading the one within half a turn of the estimate's, by the remainder of 'Stand-ins'
 unfoldable pub wrapped : Vector3f → Vector3f → Vector3f

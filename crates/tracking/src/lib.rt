@@ -1,6 +1,7 @@
 // Document 01, 'Steer': control_context.rs from the trajectory's sample to the setpoints.
 ghost use mathlib.Core.Path.{_≡_};
-ghost use Rattle.tracking.specs.Setpoints.{zeroSetpoints, emptyPid, poseAxis, posePid, pidMemory, wrapped, twistSetpoint, accelSetpoint, trackingSetpoints};
+ghost use Rattle.linear.specs.Vector.{zeroFloat};
+ghost use Rattle.tracking.specs.Setpoints.{poseAxis, axisAnswered, poseAnswered, wrapped, twistSetpoint, accelSetpoint, trackingSetpoints};
 use controller_params::ANGULAR_POSE_PID_GAINS;
 use controller_params::LINEAR_POSE_PID_GAINS;
 use controller_params::POSE_ACCEL_FEEDBACK_GAIN;
@@ -14,15 +15,11 @@ use linear::ZEROS_3;
 use pid::AntiJitterThresh;
 use pid::OutputLimits;
 use pid::PidController;
-use pid_three::PidController3;
+use setpoints::ManeuverSetpoints;
+use setpoints::PidMemory;
 use vectors::add;
 use vectors::scale;
 use vectors::sub;
-
-pub struct ManeuverSetpoints {
-    pub body_twist: Vector3f,
-    pub body_accel: Vector3f,
-}
 
 // What tracking answers, beside the PID's memory as the call leaves it.
 pub struct TrackingAnswer {
@@ -30,78 +27,75 @@ pub struct TrackingAnswer {
     pub pid: PidMemory,
 }
 
-// What the pose's PID remembers; the rest of it is constant.
-pub struct PidMemory {
-    pub prev_error: Vector3f,
-    pub integrated_error: Vector3f,
+// What the pose's PID answers, beside its memory.
+struct PoseAnswer {
+    output: Vector3f,
+    pid: PidMemory,
 }
 
-impl ManeuverSetpoints {
-    pub fn zero() -> Self
-        ensures { λ r. ⌜ r ≡ zeroSetpoints ⌝ }
-    {
-        Self {
-            body_twist: ZEROS_3,
-            body_accel: ZEROS_3,
-        }
-    }
+// What an axis answers and remembers: floats alone, for the PID's constants stay as they are.
+struct AxisAnswer {
+    output: f32,
+    prev_error: f32,
+    integrated_error: f32,
 }
 
-impl PidMemory {
-    // Nothing remembered: the start, and what the PID's reset leaves.
-    pub fn empty() -> PidMemory
-        ensures { λ r. ⌜ r ≡ emptyPid ⌝ }
-    {
-        PidMemory {
-            prev_error: ZEROS_3,
-            integrated_error: ZEROS_3,
-        }
-    }
-}
-
-// One axis of `pose_pid_controller`, with no output limits.
-fn pose_axis(gain: PidGains, thresh: f32, prev_error: f32, integrated_error: f32) -> PidController
-    ensures { λ r. ⌜ r ≡ poseAxis gain thresh «prev_error» «integrated_error» ⌝ }
+// One axis of `pose_pid_controller`, with no output limits. Where the derivative is given, pid.rs
+// does not read the previous error.
+fn pose_axis(
+    gain: PidGains,
+    thresh: f32,
+    integrated_error: f32,
+    setpoint: f32,
+    process_variable: f32,
+    derivative: f32,
+    dt_s: f32,
+) -> AxisAnswer
+    ensures { λ r. ⌜ r ≡ axisAnswered (poseAxis gain thresh zeroFloat «integrated_error») setpoint «process_variable» derivative «dt_s» ⌝ }
 {
-    PidController {
+    let controller = PidController {
         gain,
         anti_jitter_thresh: AntiJitterThresh::Below(thresh),
         output_limits: OutputLimits::Absent,
-        prev_error,
+        prev_error: 0.0,
         integrated_error,
+    };
+    let answer = controller.calculate_with_derivative(setpoint, process_variable, derivative, dt_s);
+    let after = answer.controller;
+    AxisAnswer {
+        output: answer.output,
+        prev_error: after.prev_error,
+        integrated_error: after.integrated_error,
     }
 }
 
-// `pose_pid_controller` of a context: x and y alike, and the heading.
-fn pose_pid(pid: PidMemory) -> PidController3
-    ensures { λ r. ⌜ r ≡ posePid pid ⌝ }
+// `pose_pid_controller` of a context: x and y alike, and the heading. s is the setpoint, v the
+// process variable, d the derivative.
+fn pose_pid(pid: PidMemory, s: Vector3f, v: Vector3f, d: Vector3f, dt_s: f32) -> PoseAnswer
+    ensures { λ r. ⌜ r ≡ poseAnswered pid s v d «dt_s» ⌝ }
 {
-    let thresh = POSE_PID_ANTI_JITTER_THRESH;
-    let e = pid.prev_error;
+    let t = POSE_PID_ANTI_JITTER_THRESH;
     let i = pid.integrated_error;
-    PidController3 {
-        x: pose_axis(LINEAR_POSE_PID_GAINS, thresh.x, e.x, i.x),
-        y: pose_axis(LINEAR_POSE_PID_GAINS, thresh.y, e.y, i.y),
-        z: pose_axis(ANGULAR_POSE_PID_GAINS, thresh.z, e.z, i.z),
-    }
-}
-
-fn memory_of(controller: PidController3) -> PidMemory
-    ensures { λ r. ⌜ r ≡ pidMemory controller ⌝ }
-{
-    let x = controller.x;
-    let y = controller.y;
-    let z = controller.z;
-    PidMemory {
-        prev_error: Vector3f {
-            x: x.prev_error,
-            y: y.prev_error,
-            z: z.prev_error,
+    let x = pose_axis(LINEAR_POSE_PID_GAINS, t.x, i.x, s.x, v.x, d.x, dt_s);
+    let y = pose_axis(LINEAR_POSE_PID_GAINS, t.y, i.y, s.y, v.y, d.y, dt_s);
+    let z = pose_axis(ANGULAR_POSE_PID_GAINS, t.z, i.z, s.z, v.z, d.z, dt_s);
+    PoseAnswer {
+        output: Vector3f {
+            x: x.output,
+            y: y.output,
+            z: z.output,
         },
-        integrated_error: Vector3f {
-            x: x.integrated_error,
-            y: y.integrated_error,
-            z: z.integrated_error,
+        pid: PidMemory {
+            prev_error: Vector3f {
+                x: x.prev_error,
+                y: y.prev_error,
+                z: z.prev_error,
+            },
+            integrated_error: Vector3f {
+                x: x.integrated_error,
+                y: y.integrated_error,
+                z: z.integrated_error,
+            },
         },
     }
 }
@@ -147,8 +141,8 @@ pub fn calc_tracking_setpoints(
     let traj_vel = traj_state.twist;
     let traj_pos = wrapped(traj_state.pose, pose_estimate);
     let twist_error = sub(traj_vel, state_estimate.twist);
-    let answer = pose_pid(pid).calculate_with_derivative(traj_pos, pose_estimate, twist_error, dt);
-    let pid = memory_of(answer.controller);
+    let answer = pose_pid(pid, traj_pos, pose_estimate, twist_error, dt);
+    let pid = answer.pid;
     let setpoints = ManeuverSetpoints {
         body_twist: twist_setpoint(traj_vel),
         body_accel: accel_setpoint(answer.output),

@@ -1,5 +1,7 @@
 -- `context_steer::follow` meets its contract. Assumes nothing.
 use borrow.Author.Needs.{needs}
+use Rattle.linear.specs.Vector.{zeros3}
+use Rattle.setpoints.specs.Setpoints.{zeroSetpoints}
 use Rattle.context_steer.specs.Steer.{followed}
 use Rattle.context_steer.proofs.follow.Statement.{statement}
 use Rattle.context_steer.proofs.follow.Tie as tie
@@ -7,22 +9,16 @@ use Rattle.context_steer.proofs.follow.Tie as tie
 enum-told : tie.Need-enum-told
 enum-told c = search needs
 
-zero-requires : tie.Need-zero-requires
-zero-requires c κs = search needs
-
 returns : tie.Need-returns
-unfolding followed
-returns c = rw (c .zero .ensures, c .before .enum-told .given .1)
+unfolding followed zeroSetpoints zeros3
+returns c = rw (c .enum-told .given .1)
 
 enum-told-2 : tie.Need-enum-told-2
 enum-told-2 c = search needs
 
-zero-requires-2 : tie.Need-zero-requires-2
-zero-requires-2 c κs = search needs
-
 returns-2 : tie.Need-returns-2
-unfolding followed
-returns-2 c = rw (c .zero2 .ensures, c .before .enum-told2 .given .1)
+unfolding followed zeroSetpoints zeros3
+returns-2 c = rw (c .enum-told2 .given .1)
 
 enum-told-3 : tie.Need-enum-told-3
 enum-told-3 c = search needs
@@ -52,10 +48,8 @@ follow-spec =
     tie.close
     (tie.spec
     enum-told
-    zero-requires
     returns
     enum-told-2
-    zero-requires-2
     returns-2
     enum-told-3
     held-or-requires

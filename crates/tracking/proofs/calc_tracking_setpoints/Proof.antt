@@ -1,6 +1,6 @@
 -- `tracking::calc_tracking_setpoints` meets its contract. Assumes nothing.
 use borrow.Author.Needs.{needs}
-use Rattle.tracking.specs.Setpoints.{trackingSetpoints}
+use Rattle.tracking.specs.Setpoints.{poseAnswered, trackingSetpoints}
 use Rattle.tracking.proofs.calc_tracking_setpoints.Statement.{statement}
 use Rattle.tracking.proofs.calc_tracking_setpoints.Tie as tie
 
@@ -13,12 +13,6 @@ sub-requires c κs = search needs
 pose-pid-requires : tie.Need-pose-pid-requires
 pose-pid-requires c κs = search needs
 
-calculate-with-derivative-requires : tie.Need-calculate-with-derivative-requires
-calculate-with-derivative-requires c κs = search needs
-
-memory-of-requires : tie.Need-memory-of-requires
-memory-of-requires c κs = search needs
-
 twist-setpoint-requires : tie.Need-twist-setpoint-requires
 twist-setpoint-requires c κs = search needs
 
@@ -26,8 +20,10 @@ accel-setpoint-requires : tie.Need-accel-setpoint-requires
 accel-setpoint-requires c κs = search needs
 
 returns : tie.Need-returns
-unfolding trackingSetpoints
-returns c = simp (c .before .before .before .before .before .before .wrapped .ensures, c .before .before .before .before .before .sub .ensures, c .before .before .before .before .pose-pid .ensures, c .before .before .before .calculate-with-derivative .ensures, c .before .before .memory-of .ensures, c .before .twist-setpoint .ensures, c .accel-setpoint .ensures)
+unfolding trackingSetpoints poseAnswered
+returns c =
+    let p = c .before .before .before in
+    simp (p .before .before .wrapped .ensures, p .before .sub .ensures, p .pose-pid .ensures, c .before .twist-setpoint .ensures, c .accel-setpoint .ensures)
 
 pub calc-tracking-setpoints-spec : {M : Type 1} → statement M
 calc-tracking-setpoints-spec =
@@ -36,8 +32,6 @@ calc-tracking-setpoints-spec =
     wrapped-requires
     sub-requires
     pose-pid-requires
-    calculate-with-derivative-requires
-    memory-of-requires
     twist-setpoint-requires
     accel-setpoint-requires
     returns)

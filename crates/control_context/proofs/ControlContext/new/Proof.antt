@@ -1,5 +1,7 @@
 -- `control_context::ControlContext::new` meets its contract. Assumes nothing.
 use borrow.Author.Needs.{needs}
+use Rattle.linear.specs.Vector.{zeros3}
+use Rattle.setpoints.specs.Setpoints.{emptyPid}
 use Rattle.control_context.specs.Context.{newContext}
 use Rattle.control_context.proofs.ControlContext.new.Statement.{statement}
 use Rattle.control_context.proofs.ControlContext.new.Tie as tie
@@ -10,12 +12,9 @@ new-requires c κs = search needs
 empty-requires : tie.Need-empty-requires
 empty-requires c κs = search needs
 
-empty-requires-2 : tie.Need-empty-requires-2
-empty-requires-2 c κs = search needs
-
 returns : tie.Need-returns
-unfolding newContext
-returns c = simp (c .before .before .new .ensures, c .before .empty .ensures, c .empty2 .ensures)
+unfolding newContext emptyPid zeros3
+returns c = simp (c .before .new .ensures, c .empty .ensures)
 
 pub new-spec : {M : Type 1} → statement M
-new-spec = tie.close (tie.spec new-requires empty-requires empty-requires-2 returns)
+new-spec = tie.close (tie.spec new-requires empty-requires returns)

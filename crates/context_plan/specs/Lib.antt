@@ -1,0 +1,2 @@
+-- What the contracts of `context_plan` cite. Definitions only. Assumes nothing.
+pub mod Plan

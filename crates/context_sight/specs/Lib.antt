@@ -1,0 +1,2 @@
+-- What the contracts of `context_sight` cite. Definitions only. Assumes nothing.
+pub mod Sight
