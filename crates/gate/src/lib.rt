@@ -26,23 +26,21 @@ pub struct Judgement {
 fn judge_seeding(s: Seeding) -> Judgement
     ensures { λ r. ⌜ r ≡ seedingJudged s ⌝ }
 {
-    if s.n >= VISION_SEED_SAMPLES {
-        if s.is_steady() {
-            Judgement {
-                action: GateAction::SeedComplete,
-                gate: VisionGateState::Tracking(0.0),
-            }
-        } else {
-            Judgement {
-                action: GateAction::SeedReset,
-                gate: VisionGateState::Seeding(Seeding::fresh()),
-            }
-        }
-    } else {
-        Judgement {
+    if s.n < VISION_SEED_SAMPLES {
+        return Judgement {
             action: GateAction::Accumulate,
             gate: VisionGateState::Seeding(s),
-        }
+        };
+    }
+    if s.is_steady() {
+        return Judgement {
+            action: GateAction::SeedComplete,
+            gate: VisionGateState::Tracking(0.0),
+        };
+    }
+    Judgement {
+        action: GateAction::SeedReset,
+        gate: VisionGateState::Seeding(Seeding::fresh()),
     }
 }
 
@@ -67,29 +65,26 @@ fn judge_tracking(t: f32, dist: f32, dt: f32) -> Judgement
     if dist < gate_radius(t) {
         let gate = VisionGateState::Tracking(0.0);
         if dist >= VISION_GATE_BASE_RADIUS_M {
-            Judgement {
+            return Judgement {
                 action: GateAction::AcceptJump,
                 gate,
-            }
-        } else {
-            Judgement {
-                action: GateAction::Accept,
-                gate,
-            }
+            };
         }
-    } else {
-        let gate = VisionGateState::Tracking(t + dt);
-        if t == 0.0 {
-            Judgement {
-                action: GateAction::FirstReject,
-                gate,
-            }
-        } else {
-            Judgement {
-                action: GateAction::Reject,
-                gate,
-            }
-        }
+        return Judgement {
+            action: GateAction::Accept,
+            gate,
+        };
+    }
+    let gate = VisionGateState::Tracking(t + dt);
+    if t == 0.0 {
+        return Judgement {
+            action: GateAction::FirstReject,
+            gate,
+        };
+    }
+    Judgement {
+        action: GateAction::Reject,
+        gate,
     }
 }
 
@@ -99,12 +94,12 @@ impl VisionGateState {
         ensures { λ r. ⌜ r ≡ sightingJudged self sighting predicted dt ⌝ }
     {
         match self {
-            VisionGateState::Seeding(s) => judge_seeding(s.gather(sighting)),
-            VisionGateState::Tracking(t) => judge_tracking(
-                t,
-                distance_from(sighting, predicted),
-                dt,
-            ),
+            VisionGateState::Seeding(s) => {
+                return judge_seeding(s.gather(sighting));
+            }
+            VisionGateState::Tracking(t) => {
+                return judge_tracking(t, distance_from(sighting, predicted), dt);
+            }
         }
     }
 
@@ -113,8 +108,12 @@ impl VisionGateState {
         ensures { λ r. ⌜ r ≡ quiet self dt ⌝ }
     {
         match self {
-            VisionGateState::Seeding(s) => VisionGateState::Seeding(s),
-            VisionGateState::Tracking(t) => VisionGateState::Tracking(t + dt),
+            VisionGateState::Seeding(s) => {
+                return VisionGateState::Seeding(s);
+            }
+            VisionGateState::Tracking(t) => {
+                return VisionGateState::Tracking(t + dt);
+            }
         }
     }
 
@@ -123,12 +122,11 @@ impl VisionGateState {
         ensures { λ r. ⌜ r ≡ judged self seen sighting predicted dt ⌝ }
     {
         if seen {
-            self.judge_sighting(sighting, predicted, dt)
-        } else {
-            Judgement {
-                action: GateAction::NoVision,
-                gate: self.wait(dt),
-            }
+            return self.judge_sighting(sighting, predicted, dt);
+        }
+        Judgement {
+            action: GateAction::NoVision,
+            gate: self.wait(dt),
         }
     }
 }

@@ -19,4 +19,4 @@ unfolding judged
 returns-2 c = rw (c .before .if1 .left, c .wait .ensures)
 
 pub judge-spec : {M : Type 1} → statement M
-judge-spec = tie.close (tie.spec judge-sighting-requires wait-requires returns returns-2)
+judge-spec = tie.close (tie.spec judge-sighting-requires returns wait-requires returns-2)

@@ -37,8 +37,8 @@ judge-sighting-spec =
     enum-known-self
     gather-requires
     judge-seeding-requires
+    returns
     enum-known-self-2
     distance-from-requires
     judge-tracking-requires
-    returns
     returns-2)
