@@ -92,25 +92,6 @@ fn subnormal_root(b: u32) -> f32
     root_of(m, e, m % 0x80_0000 + (e + 1) % 2 * 0x80_0000)
 }
 
-// The root of the normal float above zero whose bits are b.
-fn normal_root(b: u32) -> f32
-    requires { ⌜ (2 ^ 23 ≤ b) × (b < 0x7f80_0000) ⌝ }
-    ensures { λ r. ⌜ r ≡ squareRoot binary32 (ofBits binary32 b) ⌝ }
-{
-    root_of(b % 0x80_0000 + 0x80_0000, b / 0x80_0000 + 125, b)
-}
-
-// The root of the float from zero up to the first normal one whose bits are b.
-fn small_root(b: u32) -> f32
-    requires { ⌜ b < 2 ^ 23 ⌝ }
-    ensures { λ r. ⌜ r ≡ squareRoot binary32 (ofBits binary32 b) ⌝ }
-{
-    if b == 0 {
-        return 0.0;
-    }
-    subnormal_root(b)
-}
-
 // sqrtf. The usual case, a normal float above zero, comes first.
 pub fn sqrt(x: f32) -> f32
     ensures { λ r. ⌜ r ≡ squareRoot binary32 x ⌝ }
@@ -120,10 +101,13 @@ pub fn sqrt(x: f32) -> f32
     }
     let b = f32::to_bits(x);
     if (0x80_0000 <= b) & (b < 0x7f80_0000) {
-        return normal_root(b);
+        return root_of(b % 0x80_0000 + 0x80_0000, b / 0x80_0000 + 125, b);
     }
     if b < 0x80_0000 {
-        return small_root(b);
+        if b == 0 {
+            return 0.0;
+        }
+        return subnormal_root(b);
     }
     if x < 0.0 { 0.0 / 0.0 } else { x }
 }
