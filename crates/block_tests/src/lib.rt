@@ -63,12 +63,13 @@ fn inputs_tested(block: &[u8]) -> Tested
     match answer {
         TickLengthAnswer::Made(tick) => {
             if is_mode(word_at(block, MODE)) {
-                Tested::Passed(tick)
-            } else {
-                Tested::Refused(BlockRefusal::Mode)
+                return Tested::Passed(tick);
             }
+            return Tested::Refused(BlockRefusal::Mode);
         }
-        TickLengthAnswer::Refused => Tested::Refused(BlockRefusal::TickLength),
+        TickLengthAnswer::Refused => {
+            return Tested::Refused(BlockRefusal::TickLength);
+        }
     }
 }
 
@@ -78,13 +79,11 @@ fn format_tested(block: &[u8]) -> Tested
 {
     if word_at(block, VERSION) == 1 {
         if spare_zero(block) {
-            inputs_tested(block)
-        } else {
-            Tested::Refused(BlockRefusal::Spare)
+            return inputs_tested(block);
         }
-    } else {
-        Tested::Refused(BlockRefusal::Version)
+        return Tested::Refused(BlockRefusal::Spare);
     }
+    Tested::Refused(BlockRefusal::Version)
 }
 
 // The first two tests, 5 and then 6, and the others after them.
@@ -93,11 +92,9 @@ pub fn block_tested(block: &[u8]) -> Tested
 {
     if block.len() == BYTES {
         if word_at(block, CHECK) == check_of(block) {
-            format_tested(block)
-        } else {
-            Tested::Refused(BlockRefusal::Check)
+            return format_tested(block);
         }
-    } else {
-        Tested::Refused(BlockRefusal::Length)
+        return Tested::Refused(BlockRefusal::Check);
     }
+    Tested::Refused(BlockRefusal::Length)
 }

@@ -1,3 +1,2 @@
--- Laws of commands, and what two proofs share. Assumes nothing.
-pub mod Fields
+-- Laws of commands. Assumes nothing.
 pub mod Laws

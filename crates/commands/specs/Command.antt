@@ -1,9 +1,9 @@
--- Document 01, 'Records': the commands, the words that they are read from, and when two are equal. Assumes nothing.
+-- Document 01, 'Records': the commands, the words that they are read from, and their fields. Assumes nothing.
 use Prim.Native.Nat.{ℕ}
-use mathlib.Core.Bool.{Bool, true, false, cond, _&&_}
+use mathlib.Core.Bool.{Bool, cond}
 use mathlib.Core.List.{List, [], _∷_}
 use lib.Dec.{eqb, ltb}
-use lib.Ieee.{Float, eq}
+use lib.Ieee.{Float}
 use Rattle.commands.specs.declared.GlobalPosition.{GlobalPosition}
 use Rattle.commands.specs.declared.HeadingLine.{HeadingLine}
 use Rattle.commands.specs.declared.ManeuverCommand.{ManeuverCommand}
@@ -72,7 +72,7 @@ refusalNumber Refused = 4
 abbrev pub refusalOf : ℕ → ℕ
 refusalOf mode = cond (isMode mode) 0 4
 
--- ---- equality
+-- ---- fields
 
 -- the 7 floats of a position, and the 13 of a line, in document 01's order
 abbrev pub positionFields : GlobalPosition → List Float
@@ -90,14 +90,3 @@ fieldsOf Cmd.Off = []
 fieldsOf Cmd.Brake = []
 fieldsOf (Cmd.GlobalPosition p) = positionFields p
 fieldsOf (Cmd.HeadingLine l) = lineFields l
-
--- fields equal as floats, each with the one at its place
-unfoldable pub fieldsEqual : List Float → List Float → Bool
-fieldsEqual [] [] = true
-fieldsEqual [] (y ∷ ys) = false
-fieldsEqual (x ∷ xs) [] = false
-fieldsEqual (x ∷ xs) (y ∷ ys) = eq x y && fieldsEqual xs ys
-
--- Equal: same kind, fields equal as floats
-unfoldable pub equal : ManeuverCommand → ManeuverCommand → Bool
-equal a b = eqb (modeOf a) (modeOf b) && fieldsEqual (fieldsOf a) (fieldsOf b)

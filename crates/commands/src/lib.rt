@@ -1,6 +1,6 @@
-// Commands, their words and their equality.
+// Commands and their words.
 ghost use mathlib.Core.Path.{_≡_};
-ghost use Rattle.commands.specs.Command.{isMode, positionFrom, lineFrom, commandFrom, refusalNumber, refusalOf, positionFields, lineFields, fieldsEqual, equal};
+ghost use Rattle.commands.specs.Command.{isMode, commandFrom, refusalNumber, refusalOf};
 use linear::Vector3f;
 
 pub struct GlobalPosition {
@@ -63,124 +63,52 @@ pub fn is_mode(mode: u32) -> bool
     mode < 4
 }
 
-impl GlobalPosition {
-    fn from_words(w: CommandWords) -> GlobalPosition
-        ensures { λ r. ⌜ r ≡ positionFrom w ⌝ }
-    {
-        GlobalPosition {
-            target_pose: Vector3f {
-                x: w.w0,
-                y: w.w1,
-                z: w.w2,
-            },
-            max_linear_vel: w.w3,
-            max_angular_vel: w.w4,
-            max_linear_acc: w.w5,
-            max_angular_acc: w.w6,
-        }
-    }
-
-    fn eq(self, o: GlobalPosition) -> bool
-        ensures { λ r. ⌜ r ≡ fieldsEqual (positionFields self) (positionFields o) ⌝ }
-    {
-        (self.target_pose.x == o.target_pose.x)
-            & (self.target_pose.y == o.target_pose.y)
-            & (self.target_pose.z == o.target_pose.z)
-            & (self.max_linear_vel == o.max_linear_vel)
-            & (self.max_angular_vel == o.max_angular_vel)
-            & (self.max_linear_acc == o.max_linear_acc)
-            & (self.max_angular_acc == o.max_angular_acc)
-    }
-}
-
-impl HeadingLine {
-    fn from_words(w: CommandWords) -> HeadingLine
-        ensures { λ r. ⌜ r ≡ lineFrom w ⌝ }
-    {
-        HeadingLine {
-            global_theta: w.w0,
-            start_x: w.w1,
-            start_y: w.w2,
-            dir_x: w.w3,
-            dir_y: w.w4,
-            line_velocity: w.w5,
-            max_vel_colinear: w.w6,
-            max_vel_perp: w.w7,
-            max_vel_angular: w.w8,
-            max_accel_colinear: w.w9,
-            max_accel_perp: w.w10,
-            max_accel_angular: w.w11,
-            colinear_start_thresh: w.w12,
-        }
-    }
-
-    fn eq(self, o: HeadingLine) -> bool
-        ensures { λ r. ⌜ r ≡ fieldsEqual (lineFields self) (lineFields o) ⌝ }
-    {
-        (self.global_theta == o.global_theta)
-            & (self.start_x == o.start_x)
-            & (self.start_y == o.start_y)
-            & (self.dir_x == o.dir_x)
-            & (self.dir_y == o.dir_y)
-            & (self.line_velocity == o.line_velocity)
-            & (self.max_vel_colinear == o.max_vel_colinear)
-            & (self.max_vel_perp == o.max_vel_perp)
-            & (self.max_vel_angular == o.max_vel_angular)
-            & (self.max_accel_colinear == o.max_accel_colinear)
-            & (self.max_accel_perp == o.max_accel_perp)
-            & (self.max_accel_angular == o.max_accel_angular)
-            & (self.colinear_start_thresh == o.colinear_start_thresh)
-    }
-}
-
 impl ManeuverCommand {
     // The command of a mode number. Words that its mode does not use are not read.
     pub fn from_words(mode: u32, w: CommandWords) -> CommandAnswer
         ensures { λ r. ⌜ (r ≡ commandFrom mode w) × (refusalNumber r ≡ refusalOf mode) ⌝ }
     {
         match mode {
-            0 => CommandAnswer::Given(ManeuverCommand::Off),
-            1 => CommandAnswer::Given(ManeuverCommand::Brake),
+            0 => {
+                return CommandAnswer::Given(ManeuverCommand::Off);
+            }
+            1 => {
+                return CommandAnswer::Given(ManeuverCommand::Brake);
+            }
             2 => {
-                let position = GlobalPosition::from_words(w);
-                CommandAnswer::Given(ManeuverCommand::GlobalPosition(position))
+                let position = GlobalPosition {
+                    target_pose: Vector3f {
+                        x: w.w0,
+                        y: w.w1,
+                        z: w.w2,
+                    },
+                    max_linear_vel: w.w3,
+                    max_angular_vel: w.w4,
+                    max_linear_acc: w.w5,
+                    max_angular_acc: w.w6,
+                };
+                return CommandAnswer::Given(ManeuverCommand::GlobalPosition(position));
             }
             3 => {
-                let line = HeadingLine::from_words(w);
-                CommandAnswer::Given(ManeuverCommand::HeadingLine(line))
-            }
-            _ => CommandAnswer::Refused,
-        }
-    }
-
-    // Same kind, and the fields equal as floats: a NaN equals nothing, and -0.0 equals 0.0.
-    pub fn eq(self, o: ManeuverCommand) -> bool
-        ensures { λ r. ⌜ r ≡ equal self o ⌝ }
-    {
-        match self {
-            ManeuverCommand::Off => {
-                let ManeuverCommand::Off = o else {
-                    return false;
+                let line = HeadingLine {
+                    global_theta: w.w0,
+                    start_x: w.w1,
+                    start_y: w.w2,
+                    dir_x: w.w3,
+                    dir_y: w.w4,
+                    line_velocity: w.w5,
+                    max_vel_colinear: w.w6,
+                    max_vel_perp: w.w7,
+                    max_vel_angular: w.w8,
+                    max_accel_colinear: w.w9,
+                    max_accel_perp: w.w10,
+                    max_accel_angular: w.w11,
+                    colinear_start_thresh: w.w12,
                 };
-                true
+                return CommandAnswer::Given(ManeuverCommand::HeadingLine(line));
             }
-            ManeuverCommand::Brake => {
-                let ManeuverCommand::Brake = o else {
-                    return false;
-                };
-                true
-            }
-            ManeuverCommand::GlobalPosition(p) => {
-                let ManeuverCommand::GlobalPosition(q) = o else {
-                    return false;
-                };
-                p.eq(q)
-            }
-            ManeuverCommand::HeadingLine(l) => {
-                let ManeuverCommand::HeadingLine(k) = o else {
-                    return false;
-                };
-                l.eq(k)
+            _ => {
+                return CommandAnswer::Refused;
             }
         }
     }

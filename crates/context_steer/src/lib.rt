@@ -26,10 +26,12 @@ fn held_state(held: HeldSample) -> HeldState
     ensures { λ r. ⌜ r ≡ heldState held ⌝ }
 {
     match held {
-        HeldSample::Absent => HeldState::Absent,
+        HeldSample::Absent => {
+            return HeldState::Absent;
+        }
         HeldSample::Held(sample) => {
             let state = sample.state;
-            HeldState::Held(state)
+            return HeldState::Held(state);
         }
     }
 }
@@ -121,11 +123,7 @@ pub fn steer(
 ) -> Tracked
     ensures { λ r. ⌜ r ≡ steered context p fresh next «wheel_vel_meas» dt ⌝ }
 {
-    let t = follow(context, p, fresh, next, dt);
-    let setpoints = t.setpoints;
-    let after = t.context;
-    Tracked {
-        setpoints,
-        context: recover(after, wheel_vel_meas),
-    }
+    let mut t = follow(context, p, fresh, next, dt);
+    t.context = recover(t.context, wheel_vel_meas);
+    t
 }

@@ -1,6 +1,6 @@
 // Document 01's stand-in for hypotf.
 ghost use mathlib.Core.Path.{_≡_};
-ghost use Rattle.float_hypot.specs.Hypot.{larger, smaller, rootOfSquares, scaledRoot, outweighs, hypotOf, hypotenuse};
+ghost use Rattle.float_hypot.specs.Hypot.{larger, smaller, scaledRoot, outweighs, hypotOf, hypotenuse};
 use float_bits::abs;
 use float_bits::to_bits;
 use float_root::sqrt;
@@ -13,18 +13,13 @@ const TWO_90: f32 = 1.2379400392853803e27;
 
 const TWO_MINUS_90: f32 = 8.077935669463161e-28;
 
-// The root of a * a + b * b, each step rounded.
-fn root_of_squares(a: f32, b: f32) -> f32
-    ensures { λ r. ⌜ r ≡ rootOfSquares a b ⌝ }
-{
-    sqrt(a * a + b * b)
-}
-
-// The same with both scaled by `by`, and scaled back by `back`.
+// The root of a * a + b * b, each step rounded, with both scaled by `by`, and scaled back by `back`.
 fn scaled_root(by: f32, back: f32, a: f32, b: f32) -> f32
     ensures { λ r. ⌜ r ≡ scaledRoot by back a b ⌝ }
 {
-    root_of_squares(a * by, b * by) * back
+    let p = a * by;
+    let q = b * by;
+    sqrt(p * p + q * q) * back
 }
 
 // Whether b is zero, or too small beside a to count. The sum is at 64 bits, where it cannot wrap.
@@ -47,7 +42,7 @@ fn hypot_of(a: f32, b: f32) -> f32
     if b < TWO_MINUS_60 {
         return scaled_root(TWO_90, TWO_MINUS_90, a, b);
     }
-    root_of_squares(a, b)
+    sqrt(a * a + b * b)
 }
 
 // The larger of two numbers.

@@ -7,13 +7,6 @@ ghost use Rattle.float_root.specs.Root.{rootOf, squareRoot};
 use root_table::slope;
 use root_table::value;
 
-// A word's number at 64 bits.
-fn wide(x: u32) -> u64
-    ensures { λ r. ⌜ (r ≡ x) × (r < 2 ^ 32) ⌝ }
-{
-    x as u64
-}
-
 // A number near the root of a float's significand, in units of the root's last place, from the
 // float's bits b: a cubic for each of 64 intervals. Only speed rests on it, since `root_of` tries
 // what it answers.
@@ -21,7 +14,7 @@ fn estimate(b: u32) -> u64
     ensures { λ r. ⌜ r < 2 ^ 32 ⌝ }
 {
     let i = b / 0x4_0000 % 64;
-    let d = wide(b % 0x4_0000);
+    let d = (b % 0x4_0000) as u64;
     let v = value(i);
     let s = slope(i);
     let bend = v % 0x1_0000_0000 - s % 0x100 * d;
@@ -62,7 +55,7 @@ fn counted_root(m: u32, e: u32, u: u64) -> f32
     requires { ⌜ u < 2 ^ 32 ⌝ }
     ensures { λ r. ⌜ r ≡ rootOf binary32 (m * 2 ^ (e + 23)) ⌝ }
 {
-    let n = (m as u64) * (0x200_0000 * (1 + wide(e % 2)));
+    let n = (m as u64) * (0x200_0000 * (1 + ((e % 2) as u64)));
     let s = raise(n, lower(n, u * 2 % 0x400_0000));
     f32::from_bits((e / 2) * 0x80_0000 + (((s + 1) / 2) as u32))
 }
@@ -76,7 +69,7 @@ fn root_of(m: u32, e: u32, b: u32) -> f32
     ensures { λ r. ⌜ r ≡ rootOf binary32 (m * 2 ^ (e + 23)) ⌝ }
 {
     let u = estimate(b);
-    let n = (m as u64) * (0x80_0000 * (1 + wide(e % 2)));
+    let n = (m as u64) * (0x80_0000 * (1 + ((e % 2) as u64)));
     let square = u * u;
     if (square < n + u) & (n <= square + u) {
         f32::from_bits((e / 2) * 0x80_0000 + (u as u32))
@@ -99,25 +92,6 @@ fn subnormal_root(b: u32) -> f32
     root_of(m, e, m % 0x80_0000 + (e + 1) % 2 * 0x80_0000)
 }
 
-// The root of the normal float above zero whose bits are b.
-fn normal_root(b: u32) -> f32
-    requires { ⌜ (2 ^ 23 ≤ b) × (b < 0x7f80_0000) ⌝ }
-    ensures { λ r. ⌜ r ≡ squareRoot binary32 (ofBits binary32 b) ⌝ }
-{
-    root_of(b % 0x80_0000 + 0x80_0000, b / 0x80_0000 + 125, b)
-}
-
-// The root of the float from zero up to the first normal one whose bits are b.
-fn small_root(b: u32) -> f32
-    requires { ⌜ b < 2 ^ 23 ⌝ }
-    ensures { λ r. ⌜ r ≡ squareRoot binary32 (ofBits binary32 b) ⌝ }
-{
-    if b == 0 {
-        return 0.0;
-    }
-    subnormal_root(b)
-}
-
 // sqrtf. The usual case, a normal float above zero, comes first.
 pub fn sqrt(x: f32) -> f32
     ensures { λ r. ⌜ r ≡ squareRoot binary32 x ⌝ }
@@ -127,10 +101,13 @@ pub fn sqrt(x: f32) -> f32
     }
     let b = f32::to_bits(x);
     if (0x80_0000 <= b) & (b < 0x7f80_0000) {
-        return normal_root(b);
+        return root_of(b % 0x80_0000 + 0x80_0000, b / 0x80_0000 + 125, b);
     }
     if b < 0x80_0000 {
-        return small_root(b);
+        if b == 0 {
+            return 0.0;
+        }
+        return subnormal_root(b);
     }
     if x < 0.0 { 0.0 / 0.0 } else { x }
 }

@@ -1,6 +1,6 @@
 // The gate of `update_state_estimate`: which sightings are taken.
 ghost use mathlib.Core.Path.{_≡_};
-ghost use Rattle.gate.specs.Gate.{seedingJudged, distance, radius, trackingJudged, sightingJudged, quiet, judged};
+ghost use Rattle.gate.specs.Gate.{seedingJudged, trackingJudged, quiet, judged};
 use controller_params::VISION_GATE_BASE_RADIUS_M;
 use controller_params::VISION_GATE_EXPAND_RATE_M_PER_S;
 use controller_params::VISION_SEED_SAMPLES;
@@ -26,95 +26,67 @@ pub struct Judgement {
 fn judge_seeding(s: Seeding) -> Judgement
     ensures { λ r. ⌜ r ≡ seedingJudged s ⌝ }
 {
-    if s.n >= VISION_SEED_SAMPLES {
-        if s.is_steady() {
-            Judgement {
-                action: GateAction::SeedComplete,
-                gate: VisionGateState::Tracking(0.0),
-            }
-        } else {
-            Judgement {
-                action: GateAction::SeedReset,
-                gate: VisionGateState::Seeding(Seeding::fresh()),
-            }
-        }
-    } else {
-        Judgement {
+    if s.n < VISION_SEED_SAMPLES {
+        return Judgement {
             action: GateAction::Accumulate,
             gate: VisionGateState::Seeding(s),
-        }
+        };
     }
-}
-
-// How far a sighting lies from the predicted place.
-fn distance_from(sighting: Vector3f, predicted: Vector6f) -> f32
-    ensures { λ r. ⌜ r ≡ distance sighting predicted ⌝ }
-{
-    hypot(sighting.x - predicted.pose.x, sighting.y - predicted.pose.y)
-}
-
-// The gate's radius at t.
-fn gate_radius(t: f32) -> f32
-    ensures { λ r. ⌜ r ≡ radius t ⌝ }
-{
-    VISION_GATE_BASE_RADIUS_M + VISION_GATE_EXPAND_RATE_M_PER_S * t
+    if s.is_steady() {
+        return Judgement {
+            action: GateAction::SeedComplete,
+            gate: VisionGateState::Tracking(0.0),
+        };
+    }
+    Judgement {
+        action: GateAction::SeedReset,
+        gate: VisionGateState::Seeding(Seeding::fresh()),
+    }
 }
 
 // What becomes of a sighting at this distance while tracking.
 fn judge_tracking(t: f32, dist: f32, dt: f32) -> Judgement
     ensures { λ r. ⌜ r ≡ trackingJudged t dist dt ⌝ }
 {
-    if dist < gate_radius(t) {
+    let radius = VISION_GATE_BASE_RADIUS_M + VISION_GATE_EXPAND_RATE_M_PER_S * t;
+    if dist < radius {
         let gate = VisionGateState::Tracking(0.0);
         if dist >= VISION_GATE_BASE_RADIUS_M {
-            Judgement {
+            return Judgement {
                 action: GateAction::AcceptJump,
                 gate,
-            }
-        } else {
-            Judgement {
-                action: GateAction::Accept,
-                gate,
-            }
+            };
         }
-    } else {
-        let gate = VisionGateState::Tracking(t + dt);
-        if t == 0.0 {
-            Judgement {
-                action: GateAction::FirstReject,
-                gate,
-            }
-        } else {
-            Judgement {
-                action: GateAction::Reject,
-                gate,
-            }
-        }
+        return Judgement {
+            action: GateAction::Accept,
+            gate,
+        };
+    }
+    let gate = VisionGateState::Tracking(t + dt);
+    if t == 0.0 {
+        return Judgement {
+            action: GateAction::FirstReject,
+            gate,
+        };
+    }
+    Judgement {
+        action: GateAction::Reject,
+        gate,
     }
 }
 
 impl VisionGateState {
-    // A tick with a sighting.
-    fn judge_sighting(self, sighting: Vector3f, predicted: Vector6f, dt: f32) -> Judgement
-        ensures { λ r. ⌜ r ≡ sightingJudged self sighting predicted dt ⌝ }
-    {
-        match self {
-            VisionGateState::Seeding(s) => judge_seeding(s.gather(sighting)),
-            VisionGateState::Tracking(t) => judge_tracking(
-                t,
-                distance_from(sighting, predicted),
-                dt,
-            ),
-        }
-    }
-
-    // A tick without one: the radius of a tracking gate grows on.
+    // A tick without a sighting: the radius of a tracking gate grows on.
     fn wait(self, dt: f32) -> VisionGateState
         ensures { λ r. ⌜ r ≡ quiet self dt ⌝ }
     {
         match self {
-            VisionGateState::Seeding(s) => VisionGateState::Seeding(s),
-            VisionGateState::Tracking(t) => VisionGateState::Tracking(t + dt),
+            VisionGateState::Seeding(s) => {
+                return VisionGateState::Seeding(s);
+            }
+            VisionGateState::Tracking(t) => {
+                return VisionGateState::Tracking(t + dt);
+            }
         }
     }
 
@@ -123,12 +95,20 @@ impl VisionGateState {
         ensures { λ r. ⌜ r ≡ judged self seen sighting predicted dt ⌝ }
     {
         if seen {
-            self.judge_sighting(sighting, predicted, dt)
-        } else {
-            Judgement {
-                action: GateAction::NoVision,
-                gate: self.wait(dt),
+            match self {
+                VisionGateState::Seeding(s) => {
+                    return judge_seeding(s.gather(sighting));
+                }
+                VisionGateState::Tracking(t) => {
+                    let x = sighting.x - predicted.pose.x;
+                    let y = sighting.y - predicted.pose.y;
+                    return judge_tracking(t, hypot(x, y), dt);
+                }
             }
+        }
+        Judgement {
+            action: GateAction::NoVision,
+            gate: self.wait(dt),
         }
     }
 }

@@ -11,7 +11,8 @@ use Rattle.plan_answer.specs.declared.PlanAnswer.{PlanAnswer}
 use Rattle.plan_answer.specs.declared.PlanAnswer.the-variants.{Hold, NoVision, Keep, NewPlan}
 use Rattle.maneuvers.specs.declared.Decision.{Decision}
 use Rattle.commands.specs.Command.{isMode}
-use Rattle.plan_memory.specs.Memory.{emptyMemory, commandChanged}
+use Rattle.plan_memory.specs.Memory.{emptyMemory}
+use Rattle.command_equality.specs.Equality.{commandChanged}
 
 -- hold if halt, recovering, or mode 0 or 1. A number that is no mode holds too, so that there is an answer: callers refuse it first, with 4
 abbrev pub holds : ℕ → Bool → Bool → Bool

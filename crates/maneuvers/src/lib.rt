@@ -1,7 +1,8 @@
 // The tick's one decision over mode, halt, recovery and vision.
 ghost use mathlib.Core.Path.{_≡_};
-ghost use Rattle.maneuvers.specs.Plan.{hold, inMode, maneuverAnswer, decided, numberDecided};
+ghost use Rattle.maneuvers.specs.Plan.{inMode, maneuverAnswer, decided, numberDecided};
 ghost use Rattle.plan_answer.specs.Answer.{answerNumber};
+use command_equality::command_changed;
 use commands::ManeuverCommand;
 use linear::Vector6f;
 use plan_answer::PlanAnswer;
@@ -15,25 +16,14 @@ pub struct Decision {
     pub prev_mode: u32,
 }
 
-fn hold() -> Decision
-    ensures { λ r. ⌜ r ≡ hold ⌝ }
-{
-    Decision {
-        answer: PlanAnswer::Hold,
-        memory: Memory::empty(),
-        prev_mode: 0,
-    }
-}
-
 // A changed mode drops trajectory and previous command.
 fn in_mode(memory: Memory, mode: u32, prev_mode: u32) -> Memory
     ensures { λ r. ⌜ r ≡ inMode memory mode «prev_mode» ⌝ }
 {
     if mode == prev_mode {
-        memory
-    } else {
-        Memory::empty()
+        return memory;
     }
+    Memory::empty()
 }
 
 // What modes 2 and 3 answer.
@@ -47,21 +37,21 @@ fn maneuver_answer(
 {
     if vision_active {
         let held = memory.held;
-        let prev_cmd = memory.prev_cmd;
         match held {
-            HeldSample::Absent => PlanAnswer::NewPlan(estimate),
+            HeldSample::Absent => {
+                return PlanAnswer::NewPlan(estimate);
+            }
             HeldSample::Held(sample) => {
-                let state = sample.state;
-                if prev_cmd.command_changed(cmd) {
-                    PlanAnswer::NewPlan(state)
-                } else {
-                    PlanAnswer::Keep
+                let prev_cmd = memory.prev_cmd;
+                if command_changed(prev_cmd, cmd) {
+                    let state = sample.state;
+                    return PlanAnswer::NewPlan(state);
                 }
+                return PlanAnswer::Keep;
             }
         }
-    } else {
-        PlanAnswer::NoVision
     }
+    PlanAnswer::NoVision
 }
 
 // The one decision over mode, halt, recovery and vision.
@@ -78,20 +68,18 @@ pub fn decide(
     ensures { λ r. ⌜ r ≡ decided mode halt recovering «vision_active» cmd memory «prev_mode» estimate ⌝ }
     ensures { λ r. ⌜ answerNumber (r .answer) ≡ numberDecided mode halt recovering «vision_active» cmd memory «prev_mode» ⌝ }
 {
-    if halt | recovering {
-        return hold();
+    // A number that is no mode holds too: callers refuse it first, with 4.
+    if halt | recovering | (mode < 2) | !(mode < 4) {
+        return Decision {
+            answer: PlanAnswer::Hold,
+            memory: Memory::empty(),
+            prev_mode: 0,
+        };
     }
-    match mode {
-        0..=1 => hold(),
-        2..=3 => {
-            let memory = in_mode(memory, mode, prev_mode);
-            Decision {
-                answer: maneuver_answer(memory, vision_active, cmd, estimate),
-                memory,
-                prev_mode: mode,
-            }
-        }
-        // No mode: callers refuse it first, with 4.
-        _ => hold(),
+    let memory = in_mode(memory, mode, prev_mode);
+    Decision {
+        answer: maneuver_answer(memory, vision_active, cmd, estimate),
+        memory,
+        prev_mode: mode,
     }
 }

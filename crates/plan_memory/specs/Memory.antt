@@ -1,5 +1,4 @@
 -- Document 01, 'The tick's four calls', Plan: the held sample and the previous command, and what is dropped of them and when. Assumes nothing.
-use mathlib.Core.Bool.{Bool, true, not}
 use Rattle.commands.specs.declared.ManeuverCommand.{ManeuverCommand}
 use Rattle.plan_memory.specs.declared.Sample.{Sample}
 use Rattle.plan_memory.specs.declared.HeldSample as Held
@@ -7,7 +6,6 @@ use Rattle.plan_memory.specs.declared.HeldSample.the-variants as HeldSam
 use Rattle.plan_memory.specs.declared.PrevCommand.{PrevCommand}
 use Rattle.plan_memory.specs.declared.PrevCommand.the-variants as Prev
 use Rattle.plan_memory.specs.declared.Memory.{Memory}
-use Rattle.commands.specs.Command.{equal}
 
 -- trajectory and previous command dropped
 unfoldable pub emptyMemory : Memory
@@ -20,11 +18,6 @@ trajectoryDropped m = record { held = HeldSample.Absent; «prev_cmd» = m .«pre
 -- after tracking, the next sample is held and the command is the previous one
 unfoldable pub afterTracking : Sample → ManeuverCommand → Memory
 afterTracking next cmd = record { held = HeldSample.Held next; «prev_cmd» = Prev.Was cmd }
-
--- the command changed: there is no previous one, or the two are not equal
-unfoldable pub commandChanged : PrevCommand → ManeuverCommand → Bool
-commandChanged Prev.Absent cmd = true
-commandChanged (Prev.Was prev) cmd = not (equal prev cmd)
 
 -- the held sample. Where there is none, which no keep meets, the fresh one, so that there is an answer
 abbrev pub heldOr : Held.HeldSample → Sample → Sample

@@ -1,6 +1,6 @@
 // What plan and steer remember: the held sample and the previous command.
 ghost use mathlib.Core.Path.{_≡_};
-ghost use Rattle.plan_memory.specs.Memory.{emptyMemory, trajectoryDropped, afterTracking, commandChanged, heldOr};
+ghost use Rattle.plan_memory.specs.Memory.{emptyMemory, trajectoryDropped, afterTracking, heldOr};
 use commands::ManeuverCommand;
 use linear::Vector3f;
 use linear::Vector6f;
@@ -33,19 +33,12 @@ impl HeldSample {
         ensures { λ r. ⌜ r ≡ heldOr self fresh ⌝ }
     {
         match self {
-            HeldSample::Absent => fresh,
-            HeldSample::Held(sample) => sample,
-        }
-    }
-}
-
-impl PrevCommand {
-    pub fn command_changed(self, cmd: ManeuverCommand) -> bool
-        ensures { λ r. ⌜ r ≡ commandChanged self cmd ⌝ }
-    {
-        match self {
-            PrevCommand::Absent => true,
-            PrevCommand::Was(prev) => !prev.eq(cmd),
+            HeldSample::Absent => {
+                return fresh;
+            }
+            HeldSample::Held(sample) => {
+                return sample;
+            }
         }
     }
 }

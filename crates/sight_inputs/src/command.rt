@@ -83,8 +83,14 @@ pub(crate) fn command_words(block: &[u8], mode: u32) -> CommandWords
     ensures { λ r. ⌜ r ≡ commandWords (now (block .entry)) mode ⌝ }
 {
     match mode {
-        2 => position_words(block),
-        3 => line_words(block),
-        _ => no_words(),
+        2 => {
+            return position_words(block);
+        }
+        3 => {
+            return line_words(block);
+        }
+        _ => {
+            return no_words();
+        }
     }
 }

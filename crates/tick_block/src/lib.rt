@@ -52,7 +52,11 @@ pub fn read(block: &[u8]) -> BlockAnswer
 {
     let tested = block_tested(block);
     match tested {
-        Tested::Passed(tick) => BlockAnswer::Read(tick_block(block, tick)),
-        Tested::Refused(why) => BlockAnswer::Refused(why),
+        Tested::Passed(tick) => {
+            return BlockAnswer::Read(tick_block(block, tick));
+        }
+        Tested::Refused(why) => {
+            return BlockAnswer::Refused(why);
+        }
     }
 }

@@ -49,7 +49,7 @@ inputs-tested-spec =
     enum-known-answer
     word-at-requires-2
     is-mode-requires
-    enum-told
     returns
     returns-2
+    enum-told
     returns-3)

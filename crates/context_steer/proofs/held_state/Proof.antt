@@ -16,4 +16,4 @@ returns-2 : tie.Need-returns-2
 returns-2 c = rw (c .before .before .held .given .1)
 
 pub held-state-spec : {M : Type 1} → statement M
-held-state-spec = tie.close (tie.spec enum-told enum-known-held returns returns-2)
+held-state-spec = tie.close (tie.spec enum-told returns enum-known-held returns-2)

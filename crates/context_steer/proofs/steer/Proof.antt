@@ -12,7 +12,7 @@ recover-requires c κs = search needs
 
 returns : tie.Need-returns
 unfolding steered
-returns c = simp (c .before .before .before .follow .ensures, c .recover .ensures)
+returns c = simp (c .before .follow .ensures, c .recover .ensures)
 
 pub steer-spec : {M : Type 1} → statement M
 steer-spec = tie.close (tie.spec follow-requires recover-requires returns)

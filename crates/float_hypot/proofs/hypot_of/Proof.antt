@@ -1,6 +1,6 @@
 -- `float_hypot::hypot_of` meets its contract: each arm returns what `hypotOf` picks where the tests are as the arm found them.
 -- Assumes nothing.
-use Rattle.float_hypot.specs.Hypot.{hypotOf}
+use Rattle.float_hypot.specs.Hypot.{rootOfSquares, hypotOf}
 use mathlib.Core.Path.{_∙_}
 use borrow.Author.Needs.{needs}
 use Rattle.float_hypot.proofs.hypot_of.Statement.{statement}
@@ -27,12 +27,12 @@ returns-3 : tie.Need-returns-3
 unfolding hypotOf
 returns-3 c = c .scaled-root2 .ensures ∙ rw (← c .before .before .before .before .outweigh .ensures, c .before .before .before .if1 .left, c .before .before .if2 .left, c .before .if3 .taken)
 
-root-of-squares-requires : tie.Need-root-of-squares-requires
-root-of-squares-requires c κs = search needs
+sqrt-requires : tie.Need-sqrt-requires
+sqrt-requires c κs = search needs
 
 returns-4 : tie.Need-returns-4
-unfolding hypotOf
-returns-4 c = c .root-of-squares .ensures ∙ rw (← c .before .before .before .before .outweigh .ensures, c .before .before .before .if1 .left, c .before .before .if2 .left, c .before .if3 .left)
+unfolding hypotOf rootOfSquares
+returns-4 c = c .sqrt .ensures ∙ rw (← c .before .before .before .before .outweigh .ensures, c .before .before .before .if1 .left, c .before .before .if2 .left, c .before .if3 .left)
 
 pub hypot-of-spec : {M : Type 1} → statement M
 hypot-of-spec =
@@ -44,5 +44,5 @@ hypot-of-spec =
     returns-2
     scaled-root-requires-2
     returns-3
-    root-of-squares-requires
+    sqrt-requires
     returns-4)

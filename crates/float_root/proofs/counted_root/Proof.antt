@@ -1,6 +1,6 @@
 -- `float_root::counted_root` meets its contract: the half of the whole root, rounded up, has the two points of `Normal.antt`. Assumes nothing.
-use mathlib.Core.Path.{_≡_, sym}
-use Prim.Native.Nat.{ℕ, _+_, _-_, _*_, _/_, _^_, _≤_, _<_}
+use mathlib.Core.Path.{_≡_, refl, sym}
+use Prim.Native.Nat.{ℕ, _+_, _-_, _*_, _/_, _%_, _^_, _≤_, _<_}
 use native.Mathlib.Nat.{lt-of-le-of-lt}
 use native.Mathlib.Omega.{arith}
 use Rattle.float_root.proofs.Whole.{root-lt}
@@ -11,11 +11,11 @@ use Rattle.float_root.proofs.counted_root.Statement.{statement}
 use Rattle.float_root.proofs.counted_root.Tie as tie
 
 -- the significand, or twice it, times 2 ^ 25
-abbrev number : tie.After-wide → ℕ
-number c = c .before .args .m * (2 ^ 25 * (1 + c .wide .result))
+abbrev number : tie.Start → ℕ
+number c = c .args .m * (2 ^ 25 * (1 + c .args .e % 2))
 
-even : (c : tie.After-wide) → (2 ^ 48 ≤ number c) × (number c ≤ 2 ^ 50 - 2 ^ 26) × (number c ≡ 4 * (c .before .args .m * (2 ^ 23 * (1 + c .wide .result))))
-even c = doubled (c .before .args .m) (c .wide .result) (omega arith) (c .before .pre .0 .0) (c .before .pre .0 .1)
+even : (c : tie.Start) → (2 ^ 48 ≤ number c) × (number c ≤ 2 ^ 50 - 2 ^ 26) × (number c ≡ 4 * (c .args .m * (2 ^ 23 * (1 + c .args .e % 2))))
+even c = doubled (c .args .m) (c .args .e % 2) (omega arith) (c .pre .0 .0) (c .pre .0 .1)
 
 two-points : (c : tie.After-raise) → Points (number (c .before .before)) ((c .raise .result + 1) / 2)
 two-points c =
@@ -25,11 +25,11 @@ two-points c =
 
 digits : (c : tie.After-raise) → (c .raise .result + 1) / 2 < 2 ^ 24
 digits c =
-    let s = c .before .before .before in
-    root-most (s .args .m) (s .args .e) (c .before .before .wide .result) ((c .raise .result + 1) / 2) (s .pre .0 .0) (s .pre .0 .1) (c .before .before .wide .ensures .0) (two-points c)
+    let s = c .before .before in
+    root-most (s .args .m) (s .args .e) (s .args .e % 2) ((c .raise .result + 1) / 2) (s .pre .0 .0) (s .pre .0 .1) refl (two-points c)
 
-wide-requires : tie.Need-wide-requires
-wide-requires c κs = search needs
+cast-n : tie.Need-cast-n
+cast-n c = search needs
 
 add-n : tie.Need-add-n
 add-n c = search needs
@@ -66,14 +66,14 @@ float-from-bits-result c = finite-bits _ (omega (arith, digits c))
 
 returns : tie.Need-returns
 returns c =
-    let s = c .before .before .before in
-    sym (root-by-points (s .args .m) (s .args .e) (c .before .before .wide .result) ((c .raise .result + 1) / 2) (s .pre .0 .0) (s .pre .0 .1) (c .before .before .wide .ensures .0) (two-points c) (s .pre .1 .0 .0) (s .pre .1 .0 .1))
+    let s = c .before .before in
+    sym (root-by-points (s .args .m) (s .args .e) (s .args .e % 2) ((c .raise .result + 1) / 2) (s .pre .0 .0) (s .pre .0 .1) refl (two-points c) (s .pre .1 .0 .0) (s .pre .1 .0 .1))
 
 pub counted-root-spec : {M : Type 1} → statement M
 counted-root-spec =
     tie.close
     (tie.spec
-    wide-requires
+    cast-n
     add-n
     mul-n
     mul-n-2

@@ -8,7 +8,7 @@ use Rattle.float_root.proofs.estimate.Tie as tie
 
 -- the distance from an interval's start
 abbrev distance : tie.After-slope → ℕ
-distance c = c .before .before .wide .result
+distance c = c .before .before .args .b % 2 ^ 18
 
 -- a number times that distance
 times : (c : tie.After-slope) (x most : ℕ) → x ≤ most → x * distance c ≤ most * 2 ^ 18
@@ -18,8 +18,8 @@ times c x most h = mul-le-mul {n₁ = x} {m₁ = distance c} {n₂ = most} {m₂
 unbent : (c : tie.After-slope) → c .slope .result % 2 ^ 8 * distance c ≤ 2 ^ 26
 unbent c = times c (c .slope .result % 2 ^ 8) (2 ^ 8) (omega arith)
 
-wide-requires : tie.Need-wide-requires
-wide-requires c κs = search needs
+cast-d : tie.Need-cast-d
+cast-d c = search needs
 
 value-requires : tie.Need-value-requires
 value-requires c κs = search needs
@@ -62,7 +62,7 @@ pub estimate-spec : {M : Type 1} → statement M
 estimate-spec =
     tie.close
     (tie.spec
-    wide-requires
+    cast-d
     value-requires
     slope-requires
     mul-bend

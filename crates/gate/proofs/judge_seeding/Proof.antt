@@ -13,15 +13,15 @@ fresh-requires c κs = search needs
 
 returns : tie.Need-returns
 unfolding seedingJudged
-returns c = rw (← c .before .is-steady .ensures, le-ltb _ _ (c .before .before .if1 .taken), c .if2 .taken)
+returns c = rw (lt-ltb _ _ (c .if1 .taken))
 
 returns-2 : tie.Need-returns-2
 unfolding seedingJudged
-returns-2 c = rw (← c .before .before .is-steady .ensures, le-ltb _ _ (c .before .before .before .if1 .taken), c .before .if2 .left, c .fresh .ensures)
+returns-2 c = rw (← c .before .is-steady .ensures, le-ltb _ _ (c .before .before .if1 .left), c .if2 .taken)
 
 returns-3 : tie.Need-returns-3
 unfolding seedingJudged
-returns-3 c = rw (lt-ltb _ _ (c .if1 .left))
+returns-3 c = rw (← c .before .before .is-steady .ensures, le-ltb _ _ (c .before .before .before .if1 .left), c .before .if2 .left, c .fresh .ensures)
 
 pub judge-seeding-spec : {M : Type 1} → statement M
-judge-seeding-spec = tie.close (tie.spec is-steady-requires fresh-requires returns returns-2 returns-3)
+judge-seeding-spec = tie.close (tie.spec returns is-steady-requires returns-2 fresh-requires returns-3)

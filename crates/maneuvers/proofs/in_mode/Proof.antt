@@ -17,4 +17,4 @@ unfolding inMode
 returns-2 c = rw (c .empty .ensures, ne-eqb _ _ (c .before .if1 .left))
 
 pub in-mode-spec : {M : Type 1} → statement M
-in-mode-spec = tie.close (tie.spec empty-requires returns returns-2)
+in-mode-spec = tie.close (tie.spec returns empty-requires returns-2)

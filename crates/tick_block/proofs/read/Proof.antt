@@ -42,6 +42,6 @@ read-spec =
     block-tested-requires
     enum-known-tested
     tick-block-requires
-    enum-known-tested-2
     returns
+    enum-known-tested-2
     returns-2)

@@ -1,17 +1,10 @@
 -- `commands::ManeuverCommand::from_words` meets its contract, by the match on the mode number. Assumes nothing.
 use mathlib.Core.Path.{refl}
 use native.Mathlib.Omega.{arith}
-use borrow.Author.Needs.{needs}
 use borrow.Author.Tests.{le-ltb, ne-eqb}
-use Rattle.commands.specs.Command.{commandFrom}
+use Rattle.commands.specs.Command.{positionFrom, lineFrom, commandFrom}
 use Rattle.commands.proofs.ManeuverCommand.from_words.Statement.{statement}
 use Rattle.commands.proofs.ManeuverCommand.from_words.Tie as tie
-
-from-words-requires : tie.Need-from-words-requires
-from-words-requires c κs = search needs
-
-from-words-requires-2 : tie.Need-from-words-requires-2
-from-words-requires-2 c κs = search needs
 
 returns : tie.Need-returns
 unfolding commandFrom
@@ -22,12 +15,12 @@ unfolding commandFrom
 returns-2 c = rw (c .match .keys2) (refl, refl)
 
 returns-3 : tie.Need-returns-3
-unfolding commandFrom
-returns-3 c = rw (c .from-words .ensures, c .before .match .keys3) (refl, refl)
+unfolding commandFrom positionFrom
+returns-3 c = rw (c .match .keys3) (refl, refl)
 
 returns-4 : tie.Need-returns-4
-unfolding commandFrom
-returns-4 c = rw (c .from-words2 .ensures, c .before .match .keys4) (refl, refl)
+unfolding commandFrom lineFrom
+returns-4 c = rw (c .match .keys4) (refl, refl)
 
 returns-5 : tie.Need-returns-5
 unfolding commandFrom
@@ -35,4 +28,4 @@ returns-5 c =
     rw (ne-eqb _ _ (c .match .rest .0 .0 .0 .1), ne-eqb _ _ (c .match .rest .0 .0 .1), ne-eqb _ _ (c .match .rest .0 .1), ne-eqb _ _ (c .match .rest .1), le-ltb (c .before .args .mode) 4 (omega arith)) (refl, refl)
 
 pub from-words-spec : {M : Type 1} → statement M
-from-words-spec = tie.close (tie.spec from-words-requires from-words-requires-2 returns returns-2 returns-3 returns-4 returns-5)
+from-words-spec = tie.close (tie.spec returns returns-2 returns-3 returns-4 returns-5)

@@ -19,4 +19,4 @@ unfolding quiet
 returns-2 c = rw (c .before .self2 .given .1)
 
 pub wait-spec : {M : Type 1} → statement M
-wait-spec = tie.close (tie.spec enum-known-self enum-known-self-2 returns returns-2)
+wait-spec = tie.close (tie.spec enum-known-self returns enum-known-self-2 returns-2)

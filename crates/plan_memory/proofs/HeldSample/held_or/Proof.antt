@@ -16,4 +16,4 @@ returns-2 : tie.Need-returns-2
 returns-2 c = rw (c .before .self .given .1)
 
 pub held-or-spec : {M : Type 1} → statement M
-held-or-spec = tie.close (tie.spec enum-told enum-known-self returns returns-2)
+held-or-spec = tie.close (tie.spec enum-told returns enum-known-self returns-2)

@@ -31,8 +31,8 @@ command-words-spec =
     tie.close
     (tie.spec
     position-words-requires
-    line-words-requires
-    no-words-requires
     returns
+    line-words-requires
     returns-2
+    no-words-requires
     returns-3)

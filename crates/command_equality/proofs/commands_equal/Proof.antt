@@ -1,4 +1,4 @@
--- `commands::ManeuverCommand::eq` meets its contract, kind by kind. Assumes nothing.
+-- `command_equality::commands_equal` meets its contract, kind by kind. Assumes nothing.
 use Prim.Native.Nat.{ℕ}
 use mathlib.Core.Path.{_≡_, refl, sym, _∙_, subst}
 use mathlib.Core.Bool.{false, not}
@@ -9,12 +9,13 @@ use types.Run.{OneOf, miss}
 use lib.Dec.{T, eqb}
 use borrow.Author.Needs.{needs}
 use borrow.Author.Tests.{ne-eqb}
 use Rattle.commands.proofs.ManeuverCommand.{the-type}
 use Rattle.commands.specs.declared.ManeuverCommand.{ManeuverCommand}
 use Rattle.commands.specs.declared.ManeuverCommand.the-variants as Cmd
-use Rattle.commands.specs.Command.{modeOf, equal, fieldsEqual}
-use Rattle.commands.proofs.ManeuverCommand.eq.Statement.{statement}
-use Rattle.commands.proofs.ManeuverCommand.eq.Tie as tie
+use Rattle.commands.specs.Command.{modeOf}
+use Rattle.command_equality.specs.Equality.{equal, fieldsEqual}
+use Rattle.command_equality.proofs.commands_equal.Statement.{statement}
+use Rattle.command_equality.proofs.commands_equal.Tie as tie
 
 tag-is-mode : (o : ManeuverCommand) → tagOf the-type o ≡ modeOf o
 tag-is-mode Cmd.Off = refl
@@ -38,23 +39,23 @@ enum-told-3 c = search needs
 enum-told-4 : tie.Need-enum-told-4
 enum-told-4 c = search needs
 
-enum-known-self : tie.Need-enum-known-self
-enum-known-self c = search needs
+enum-known-c : tie.Need-enum-known-c
+enum-known-c c = search needs
 
 enum-known-o : tie.Need-enum-known-o
 enum-known-o c = search needs
 
-enum-known-self-2 : tie.Need-enum-known-self-2
-enum-known-self-2 c = search needs
+enum-known-c-2 : tie.Need-enum-known-c-2
+enum-known-c-2 c = search needs
 
 enum-known-o-2 : tie.Need-enum-known-o-2
 enum-known-o-2 c = search needs
 
-eq-requires : tie.Need-eq-requires
-eq-requires c κs = search needs
+positions-equal-requires : tie.Need-positions-equal-requires
+positions-equal-requires c κs = search needs
 
-eq-requires-2 : tie.Need-eq-requires-2
-eq-requires-2 c κs = search needs
+lines-equal-requires : tie.Need-lines-equal-requires
+lines-equal-requires c κs = search needs
 
 returns : tie.Need-returns
 unfolding equal
@@ -66,11 +67,11 @@ returns-2 c = rw (c .before .enum-told3 .given .1, other-kind (0 ∷ 2 ∷ 3 ∷
 
 returns-3 : tie.Need-returns-3
 unfolding equal
-returns-3 c = rw (c .before .before .self .given .1, other-kind (0 ∷ 1 ∷ 3 ∷ []) 2 _ tt (c .match4 .keys2))
+returns-3 c = rw (c .before .before .c .given .1, other-kind (0 ∷ 1 ∷ 3 ∷ []) 2 _ tt (c .match4 .keys2))
 
 returns-4 : tie.Need-returns-4
 unfolding equal
-returns-4 c = rw (c .before .before .self2 .given .1, other-kind (0 ∷ 1 ∷ 2 ∷ []) 3 _ tt (c .match5 .keys2))
+returns-4 c = rw (c .before .before .c2 .given .1, other-kind (0 ∷ 1 ∷ 2 ∷ []) 3 _ tt (c .match5 .keys2))
 
 returns-5 : tie.Need-returns-5
 unfolding equal fieldsEqual
@@ -82,11 +83,11 @@ returns-6 c = rw (c .before .before .enum-told3 .given .1, c .enum-told4 .given 
 
 returns-7 : tie.Need-returns-7
 unfolding equal
-returns-7 c = rw (c .before .before .before .before .before .self .given .1, c .before .before .o .given .1) (c .eq .ensures)
+returns-7 c = rw (c .before .before .before .before .before .c .given .1, c .before .before .o .given .1) (c .positions-equal .ensures)
 
 returns-8 : tie.Need-returns-8
 unfolding equal
-returns-8 c = rw (c .before .before .before .before .before .self2 .given .1, c .before .before .o2 .given .1) (c .eq2 .ensures)
+returns-8 c = rw (c .before .before .before .before .before .c2 .given .1, c .before .before .o2 .given .1) (c .lines-equal .ensures)
 
-pub eq-spec : {M : Type 1} → statement M
-eq-spec = tie.close (tie.spec enum-told enum-told-2 returns enum-told-3 enum-told-4 returns-2 enum-known-self enum-known-o returns-3 eq-requires enum-known-self-2 enum-known-o-2 returns-4 eq-requires-2 returns-5 returns-6 returns-7 returns-8)
+pub commands-equal-spec : {M : Type 1} → statement M
+commands-equal-spec = tie.close (tie.spec enum-told enum-told-2 returns enum-told-3 enum-told-4 returns-2 enum-known-c enum-known-o returns-3 positions-equal-requires enum-known-c-2 enum-known-o-2 returns-4 lines-equal-requires returns-5 returns-6 returns-7 returns-8)

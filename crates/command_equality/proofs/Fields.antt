@@ -3,7 +3,7 @@ use mathlib.Core.Path.{_≡_, sym, _∙_}
 use mathlib.Core.Bool.{Bool, false, _&&_, and-assoc, and-true, and-false}
 use mathlib.Core.List.{List, [], _∷_}
 use lib.Ieee.{Float, eq}
-use Rattle.commands.specs.Command.{fieldsEqual}
+use Rattle.command_equality.specs.Equality.{fieldsEqual}
 
 -- b, and then the tests of the fields one after the other
 unfoldable pub fromLeft : Bool → List Float → List Float → Bool
