@@ -1,8 +1,8 @@
 // The tick limit: quiet blocks up to the first that is refused with 3.
 use crate::print_last;
 use drive_pass::Pass;
-use drive_text::Written;
 use drive_text::drive_block;
+use driven_text::Written;
 use libc::STDOUT_FILENO;
 
 // One block more than a pass can drive.

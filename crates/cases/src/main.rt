@@ -7,7 +7,7 @@ mod limit; // limit.rt: a pass of 16,777,217 blocks
 use bits::turn_bits;
 use drive_pass::Pass;
 use drive_text::drive_block;
-use drive_text::write_last;
+use last_text::write_last;
 use libc::STDIN_FILENO;
 use libc::STDOUT_FILENO;
 use limit::drive_to_limit;

@@ -3,7 +3,7 @@
 // gives is written: here is nothing else.
 use drive_pass::Pass;
 use drive_text::drive_batch;
-use drive_text::write_last;
+use last_text::write_last;
 use libc::STDIN_FILENO;
 use libc::STDOUT_FILENO;
 

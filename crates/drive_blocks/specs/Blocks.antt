@@ -17,16 +17,22 @@ use Rattle.drive_pass.specs.declared.Driven.{Driven}
 use Rattle.drive_pass.specs.declared.Pass.{Pass}
 use Rattle.drive_pass.specs.declared.Pass.the-variants.{Empty, Driving}
 use Rattle.drive_pass.specs.Pass.{refusedBy}
+use Rattle.line_text.specs.declared.Line.{Line}
 use Rattle.tick_calls.specs.Tick.{ticked}
+use Rattle.block_order.specs.Order.{orderOf}
 
 -- 9, then 10; 0 for a block that comes in order. The first block's number must be 0
 abbrev pub orderRefusal : Pass → TickLength → ℕ → ℕ
 orderRefusal Empty tick n = cond (eqb n 0) 0 10
-orderRefusal (Driving c) tick n = cond (eqb (tick .k) (c .choices .tick .k)) (cond (eqb n (c .ticks)) 0 10) 9
+orderRefusal (Driving c) tick n = orderOf tick (c .choices .tick) n (c .ticks)
+
+-- a tick's line, and its controller for the pass
+unfoldable pub carried : Line → BodyController → Driven
+carried line c = record { line = line; pass = Driving c }
 
 -- a tick on the block's inputs
-abbrev pub tickedOn : BodyController → TickBlock → Driven
-tickedOn c b = ticked c (b .sight) (b .plan) (b .steer) (b .finish)
+unfoldable pub tickedOn : BodyController → TickBlock → Driven
+tickedOn c b = let t = ticked c (b .sight) (b .plan) (b .steer) (b .finish) in carried (t .line) (t .controller)
 
 abbrev pub begunWith : NewAnswer → Pass → TickBlock → Driven
 begunWith (New.Made c) p b = tickedOn c b

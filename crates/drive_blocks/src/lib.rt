@@ -1,38 +1,34 @@
 // Blocks given to a pass one after the other, each with its line.
 ghost use mathlib.Core.Path.{_≡_};
-ghost use Rattle.drive_blocks.specs.Blocks.{orderRefusal, begun, taken, driven};
+ghost use Rattle.drive_blocks.specs.Blocks.{carried, tickedOn, begun, taken, driven};
+use block_order::order_refusal;
 use body_controller::BodyController;
 use body_controller::NewAnswer;
 use drive_pass::Driven;
 use drive_pass::Pass;
+use line_text::Line;
 use tick_block::BlockAnswer;
 use tick_block::TickBlock;
 use tick_block::read;
 use tick_calls::drive_tick;
-use tick_length::TickLength;
 
-// 9, then 10; 0 for a block that comes in order.
-fn order_refusal(pass: Pass, tick: TickLength, number: u32) -> u8
-    ensures { λ r. ⌜ r ≡ orderRefusal pass tick number ⌝ }
+// A tick's line and controller, as a block's line and pass.
+fn carry(line: Line, c: BodyController) -> Driven
+    ensures { λ r. ⌜ r ≡ carried line c ⌝ }
 {
-    match pass {
-        Pass::Empty => {
-            if number == 0 {
-                return 0;
-            }
-            return 10;
-        }
-        Pass::Driving(c) => {
-            let own = c.tick_length();
-            if tick.k == own.k {
-                if number == c.ticks() {
-                    return 0;
-                }
-                return 10;
-            }
-            return 9;
-        }
+    Driven {
+        line,
+        pass: Pass::Driving(c),
     }
+}
+
+// A tick on the block's inputs.
+fn drive_on(c: BodyController, b: TickBlock) -> Driven
+    ensures { λ r. ⌜ r ≡ tickedOn c b ⌝ }
+{
+    let t = drive_tick(c, b.sight, b.plan, b.steer, b.finish);
+    let line = t.line;
+    carry(line, t.controller)
 }
 
 // The first block: its k makes the controller.
@@ -43,7 +39,7 @@ fn begin(pass: Pass, b: TickBlock) -> Driven
     let made = BodyController::new(tick.k as u32);
     match made {
         NewAnswer::Made(c) => {
-            return drive_tick(c, b.sight, b.plan, b.steer, b.finish);
+            return drive_on(c, b);
         }
         NewAnswer::Refused(r) => {
             return pass.refuse(r.number());
@@ -54,18 +50,21 @@ fn begin(pass: Pass, b: TickBlock) -> Driven
 fn take(pass: Pass, b: TickBlock) -> Driven
     ensures { λ r. ⌜ r ≡ taken pass b ⌝ }
 {
-    let refusal = order_refusal(pass, b.tick, b.number);
-    if refusal == 0 {
-        match pass {
-            Pass::Empty => {
+    match pass {
+        Pass::Empty => {
+            if b.number == 0 {
                 return begin(pass, b);
             }
-            Pass::Driving(c) => {
-                return drive_tick(c, b.sight, b.plan, b.steer, b.finish);
+            return pass.refuse(10);
+        }
+        Pass::Driving(c) => {
+            let refusal = order_refusal(b.tick, c.tick_length(), b.number, c.ticks());
+            if refusal == 0 {
+                return drive_on(c, b);
             }
+            return pass.refuse(refusal);
         }
     }
-    pass.refuse(refusal)
 }
 
 // A block's line and the next pass.

@@ -2,7 +2,7 @@
 use Prim.Native.Nat.{ℕ, zero, suc, _+_, _*_, _≤_, _<_}
 use mathlib.Core.Path.{_≡_, refl, sym, ap, _∙_}
 use mathlib.Core.Bool.{Bool, true, false, cond}
-use mathlib.Core.List.{List, [], _∷_, _++_, append-assoc, append-nil, reverseAux, flatten}
+use mathlib.Core.List.{List, [], _∷_, _++_, append-assoc, append-nil, flatten}
 use native.Mathlib.Nat.{zero-add, suc-add, add-comm, not-suc-le-zero}
 use native.Mathlib.Omega.{arith}
 use lib.ListN.{length, take, drop, length-append, length-drop, drop-of-length-le}
@@ -10,13 +10,10 @@ use lib.Seq.{take-nil, take-all, take-add, drop-nil, drop-drop, drop-at, take-ap
 use Rattle.line_text.specs.declared.Line.{Line}
 use Rattle.line_text.specs.Text.{lineText}
 use Rattle.drive_pass.specs.declared.Pass.{Pass}
-use Rattle.drive_pass.specs.declared.Pass.the-variants.{Empty}
 use Rattle.drive_blocks.specs.Blocks.{driven}
-use Rattle.plain_pass.specs.PlainPass.{Passed}
-use Rattle.plain_pass.proofs.EveryPass.{every-pass}
-use Rattle.drive_text.specs.Written.{isRefused}
+use Rattle.driven_text.specs.Written.{isRefused}
 use Rattle.drive_text.specs.Batch.{firstBlock, behindFirst, Batched, nothing, oneBlock, then, batchOf, wholeOf, textOf}
-use Rattle.drive_text.specs.BatchLaws.{RoomIsEnough, BatchesJoin, TextsJoin, NoByteLost, BatchHolds}
+use Rattle.drive_text.specs.BatchLaws.{RoomIsEnough, BatchesJoin, TextsJoin, NoByteLost}
 
 -- ---- one behind the other
 
@@ -163,33 +160,3 @@ unfolding wholeOf
 no-byte-lost p bytes f =
     let all : length bytes ≤ length bytes * 512 = omega arith in
     all-driven (length bytes) p bytes f ∙ take-all (length bytes * 512) bytes all
-
--- ---- the pass theorem
-
--- a block and what follows it, where it was refused and where not
-passed-on : (p : Pass) (block : List ℕ) (rest : Batched) (bs : List (List ℕ)) (ls : List Line) → Passed bs ls p
-    → (Passed (block ∷ bs) (driven p block .line ∷ ls) (driven p block .pass)
-    → Passed (reverseAux (rest .blocks) (block ∷ bs)) (reverseAux (rest .lines) (driven p block .line ∷ ls)) (rest .pass))
-    → Passed (reverseAux (then (oneBlock p block) rest .blocks) bs) (reverseAux (then (oneBlock p block) rest .lines) ls) (then (oneBlock p block) rest .pass)
-passed-on p block rest bs ls m k = go (isRefused (driven p block .line))
-  where
-    first : Passed (block ∷ bs) (driven p block .line ∷ ls) (driven p block .pass)
-    first = unfold Passed in (p, m, driven p block, refl, refl, refl)
-
-    go : (o : Bool)
-        → (let t : Batched = cond o (oneBlock p block) (record { blocks = block ∷ rest .blocks; lines = driven p block .line ∷ rest .lines; pass = rest .pass; over = rest .over }) in
-        Passed (reverseAux (t .blocks) bs) (reverseAux (t .lines) ls) (t .pass))
-    go true = first
-    go false = k first
-
-passed : (n : ℕ) (p : Pass) (bytes : List ℕ) (bs : List (List ℕ)) (ls : List Line) → Passed bs ls p
-    → Passed (reverseAux (batchOf n p bytes .blocks) bs) (reverseAux (batchOf n p bytes .lines) ls) (batchOf n p bytes .pass)
-unfolding batchOf
-passed zero p bytes bs ls m = m
-passed (suc n) p [] bs ls m = m
-passed (suc n) p (b ∷ bytes) bs ls m =
-    let block : List ℕ = firstBlock (b ∷ bytes) in
-    passed-on p block _ bs ls m (λ f. passed n (driven p block .pass) (behindFirst (b ∷ bytes)) (block ∷ bs) (driven p block .line ∷ ls) f)
-
-pub batch-holds : BatchHolds
-batch-holds n bytes = every-pass _ _ _ (passed n Empty bytes [] [] (unfold Passed in refl))

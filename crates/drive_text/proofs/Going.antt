@@ -6,10 +6,10 @@ use mathlib.Core.List.{List, _++_, append-nil}
 use native.Mathlib.Omega.{arith}
 use lib.ListN.{length, take, drop, length-append, length-take, length-drop, take-append-drop, drop-of-length-le}
 use lib.Seq.{take-append-seam, drop-append-seam, drop-append-add, drop-drop}
-use Rattle.io.specs.Counts.{Counts}
-use Rattle.io.proofs.Counting.{counts}
+use Rattle.text_pieces.specs.Puts.{Within}
+use Rattle.text_pieces.proofs.Placing.{within}
 use Rattle.drive_pass.specs.declared.Pass.{Pass}
-use Rattle.drive_text.specs.declared.Written.{Written}
+use Rattle.driven_text.specs.declared.Written.{Written}
 use Rattle.drive_text.specs.Written.{written, blockText}
 use Rattle.drive_text.specs.Batch.{firstBlock, Batched, oneBlock, then, batchOf, textOf, answerOf, nextOf}
 use Rattle.drive_text.proofs.Batches.{one-more, stays, stays-over, textOf-append}
@@ -91,10 +91,10 @@ module _ (p : Pass) (bytes out₀ out : List ℕ) (i start end : ℕ) (w : Writt
   -- ---- the end, where there is room for n blocks; the lent bytes stay
 
   pub ended : (n : ℕ) → i * 128 ≤ length out₀ → batchOf n p bytes ≡ batchOf i p bytes
-      → (w ≡ answerOf (batchOf n p bytes)) × ((out ≡ textOf (batchOf n p bytes .lines) ++ drop (w .len) out₀) × (Counts (w .len) out × (bytes ≡ bytes)))
+      → (w ≡ answerOf (batchOf n p bytes)) × ((out ≡ textOf (batchOf n p bytes .lines) ++ drop (w .len) out₀) × (Within (w .len) out × (bytes ≡ bytes)))
   ended n h e =
       let fits : w .len ≤ length out = omega arith in
-      rw e (g .answer, (g .text, (counts _ _ fits, refl)))
+      rw e (g .answer, (g .text, (within _ _ fits, refl)))
 
   -- a refusal, or no bytes left
   pub refused : (n : ℕ) → i ≤ n → w .refused ≡ true → batchOf n p bytes ≡ batchOf i p bytes

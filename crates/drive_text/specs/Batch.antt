@@ -7,8 +7,9 @@ use Rattle.line_text.specs.declared.Line.{Line}
 use Rattle.line_text.specs.Text.{lineText}
 use Rattle.drive_pass.specs.declared.Pass.{Pass}
 use Rattle.drive_blocks.specs.Blocks.{driven}
-use Rattle.drive_text.specs.declared.Written.{Written}
-use Rattle.drive_text.specs.Written.{isRefused, written}
+use Rattle.driven_text.specs.declared.Written.{Written}
+use Rattle.driven_text.specs.Written.{isRefused}
+use Rattle.drive_text.specs.Written.{written}
 
 -- the first block of the bytes, shorter than 512 where they are, and what stands behind it
 unfoldable pub firstBlock : List ℕ → List ℕ

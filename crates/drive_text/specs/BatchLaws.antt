@@ -1,13 +1,11 @@
--- What is shown of batches: driven one after the other they are one run over all the bytes, no byte is passed over, and the pass theorem holds of
--- their lines. Proved in proofs/Batches.antt. Assumes nothing.
+-- What is shown of batches: driven one after the other they are one run over all the bytes, and no byte is passed over. Proved in
+-- proofs/Batches.antt. Assumes nothing.
 use Prim.Native.Nat.{ℕ, _*_, _≤_}
 use mathlib.Core.Path.{_≡_}
 use mathlib.Core.Bool.{false}
-use mathlib.Core.List.{List, _++_, reverse, flatten}
+use mathlib.Core.List.{List, _++_, flatten}
 use lib.ListN.{length}
 use Rattle.drive_pass.specs.declared.Pass.{Pass}
-use Rattle.drive_pass.specs.declared.Pass.the-variants.{Empty}
-use Rattle.plain_pass.specs.PlainPass.{PassHolds}
 use Rattle.drive_text.specs.Batch.{then, batchOf, wholeOf, textOf}
 
 -- a batch with room for all of the bytes' blocks drives all of them
@@ -27,7 +25,3 @@ TextsJoin =
 -- where none was refused, the blocks that were driven, one behind the other, are all of the bytes
 abbrev pub NoByteLost : Type 0
 NoByteLost = (p : Pass) (bytes : List ℕ) → wholeOf p bytes .over ≡ false → flatten (wholeOf p bytes .blocks) ≡ bytes
-
--- the pass theorem holds of the blocks that a batch drove, of its lines and of its pass
-abbrev pub BatchHolds : Type 0
-BatchHolds = (n : ℕ) (bytes : List ℕ) → PassHolds (reverse (batchOf n Empty bytes .blocks)) (reverse (batchOf n Empty bytes .lines)) (batchOf n Empty bytes .pass)

@@ -1,19 +1,12 @@
 -- A block's line as text, beside the pass that the block leaves: document 01, 'Cases', program `drive`. Assumes nothing.
 use Prim.Native.Nat.{ℕ}
-use mathlib.Core.Bool.{Bool, true, false}
 use mathlib.Core.List.{List}
 use lib.ListN.{length}
-use Rattle.line_text.specs.declared.Line.{Line}
-use Rattle.line_text.specs.declared.Line.the-variants.{Tick, Refused}
 use Rattle.line_text.specs.Text.{lineText}
 use Rattle.drive_pass.specs.declared.Pass.{Pass}
 use Rattle.drive_blocks.specs.Blocks.{driven}
-use Rattle.drive_text.specs.declared.Written.{Written}
-
--- a refused block's line
-abbrev pub isRefused : Line → Bool
-isRefused (Tick t) = false
-isRefused (Refused r) = true
+use Rattle.driven_text.specs.declared.Written.{Written}
+use Rattle.driven_text.specs.Written.{isRefused}
 
 -- the text of a block's line
 unfoldable pub blockText : Pass → List ℕ → List ℕ

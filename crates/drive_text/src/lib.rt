@@ -1,36 +1,15 @@
-// A pass and a lent block in, the next pass and its line of text out; the same for a batch of blocks;
-// and the last line.
+// A pass and a lent block in, the next pass and its line of text out; the same for a batch of blocks.
 ghost use mathlib.Core.List.{_++_};
 ghost use mathlib.Core.Path.{_≡_};
 ghost use Prim.Native.Nat.{_+_, _-_, _≤_, min};
 ghost use lib.ListN.{length, take, drop};
-ghost use Rattle.io.specs.Counts.{Counts as Within};
-ghost use Rattle.totals_text.specs.Totals.{totalsText};
-ghost use Rattle.drive_pass.specs.Pass.{nextNumber, countsOf};
-ghost use Rattle.drive_text.specs.Written.{isRefused, written, blockText};
+ghost use Rattle.text_pieces.specs.Puts.{Within};
+ghost use Rattle.drive_text.specs.Written.{written, blockText};
 ghost use Rattle.drive_text.specs.Batch.{textOf, batchInto, answerOf, nextOf};
 use drive_blocks::drive;
 use drive_pass::Pass;
-use line_text::Line;
-use line_text::write_line;
-use totals_text::write_totals;
-
-// The pass after a block or several, how many bytes of text they gave, and whether one was refused,
-// which ends the reading.
-pub struct Written {
-    pub pass: Pass,
-    pub len: usize,
-    pub refused: bool,
-}
-
-fn is_refused(line: Line) -> bool
-    ensures { λ r. ⌜ r ≡ isRefused line ⌝ }
-{
-    match line {
-        Line::Tick(t) => false,
-        Line::Refused(r) => true,
-    }
-}
+use driven_text::Written;
+use driven_text::write_driven;
 
 // Drives a block, and puts its line at the start of buf; what stands behind the line stays.
 pub fn drive_block(pass: Pass, block: &[u8], buf: &mut [u8; 128]) -> Written
@@ -39,16 +18,7 @@ pub fn drive_block(pass: Pass, block: &[u8], buf: &mut [u8; 128]) -> Written
     ensures { λ r. ⌜ (r .len ≤ 128) × Within (r .len) (now (buf .exit)) ⌝ }
     ensures { λ _. ⌜ now (block .exit) ≡ now (block .entry) ⌝ }
 {
-    let driven = drive(pass, block);
-    let line = driven.line;
-    let next = driven.pass;
-    let refused = is_refused(line);
-    let len = write_line(buf, line);
-    Written {
-        pass: next,
-        len,
-        refused,
-    }
+    write_driven(drive(pass, block), buf)
 }
 
 // Puts a line behind the at bytes that are there; what stands behind it stays.
@@ -113,13 +83,4 @@ pub fn drive_batch(pass: Pass, blocks: &[u8], out: &mut [u8]) -> Written
         i = i + 1;
     }
     w
-}
-
-// Puts the last line at the start of buf: ticks, and the counts in the order Q to R.
-pub fn write_last(pass: Pass, buf: &mut [u8; 128]) -> usize
-    ensures { λ r. ⌜ r ≡ length (totalsText (nextNumber pass) (countsOf pass)) ⌝ }
-    ensures { λ _. ⌜ now (buf .exit) ≡ totalsText (nextNumber pass) (countsOf pass) ++ drop (length (totalsText (nextNumber pass) (countsOf pass))) (now (buf .entry)) ⌝ }
-    ensures { λ r. ⌜ (r ≤ 128) × Within r (now (buf .exit)) ⌝ }
-{
-    write_totals(buf, pass.next_number(), pass.counts())
 }

@@ -9,6 +9,7 @@ use Rattle.body_controller.specs.declared.BodyController.{BodyController}
 use Rattle.call_inputs.specs.declared.FinishInput.{FinishInput}
 use Rattle.body_controller.specs.declared.FinishAnswer.{FinishAnswer}
 use Rattle.body_controller.specs.declared.FinishAnswer.the-variants as Finishes
+use Rattle.body_controller.specs.declared.FinishResult.{FinishResult}
 use Rattle.call_inputs.specs.declared.PlanInput.{PlanInput}
 use Rattle.body_controller.specs.declared.PlanCallAnswer.{PlanCallAnswer}
 use Rattle.body_controller.specs.declared.PlanCallAnswer.the-variants as Plans
@@ -27,7 +28,6 @@ use Rattle.plain_drive.specs.Calls.{Call, sight, plan, steer, finish, Reply}
 use Rattle.plain_drive.specs.PlainDrive as Plain
 use Rattle.plain_drive.specs.EveryList.{sightReply, planReply, steerReply, finishReply, Meets, Entry, Made, callsOf, repliesOf, driveOf}
 use Rattle.plain_drive.proofs.EveryList.{demand3}
-use Rattle.line_text.specs.declared.Ending.{Ending}
 use Rattle.line_text.specs.declared.Line.{Line}
 use Rattle.tick_block.specs.declared.BlockAnswer.{BlockAnswer}
 use Rattle.tick_block.specs.declared.BlockAnswer.the-variants as Block
@@ -37,9 +37,9 @@ use Rattle.drive_pass.specs.declared.Driven.{Driven}
 use Rattle.drive_pass.specs.declared.Pass.{Pass}
 use Rattle.drive_pass.specs.declared.Pass.the-variants.{Empty, Driving}
 use Rattle.drive_pass.specs.Pass.{nextNumber, countsOf, refusedBy}
-use Rattle.tick_calls.specs.declared.Heading.{Heading}
-use Rattle.tick_calls.specs.Tick.{endedBy, endingOf, finished, steeredWith, steered, plannedWith, planned, tickedWith, ticked}
-use Rattle.drive_blocks.specs.Blocks.{orderRefusal, tickedOn, begunWith, begun, takenWith, taken, drivenWith, driven}
+use Rattle.tick_calls.specs.Tick as Tick
+use Rattle.tick_calls.specs.Tick.{endedBy, endingOf, turnedAway, steeredWith, steered, plannedWith, planned, tickedWith, ticked}
+use Rattle.drive_blocks.specs.Blocks.{orderRefusal, carried, tickedOn, begunWith, begun, takenWith, taken, drivenWith, driven}
 use Rattle.plain_pass.specs.PlainPass.{endingNumber, markOf, PlainPass, none, at, PlainDriven, replyAfter, refusalIn, endedAt, atFinish, atSteer, atPlan, plainTick, plainTicks, plainCounts, refusedAt, plainTake, plainRead, plainPass, plainMarks, Passed, marksOf, StandsOn, EveryPass}
 
 -- a controller behind the calls of a pass
@@ -73,19 +73,19 @@ module _ (k : ℕ) (calls : List Call) (c : BodyController) (b : Behind k calls 
 stands : (k : ℕ) (calls : List Call) (c : BodyController) → Behind k calls c → driveOf c ≡ Plain.driven k calls
 stands k calls c b = demand3 k (b .0) c (b .2) .state ∙ ap (λ (cs : List Call). Plain.driven k cs) (b .1)
 
--- ---- the end of a tick
-
-ended-agrees : (k : ℕ) (calls : List Call) (c : BodyController) (h : Heading) (ending : Ending) (n : ℕ) → Behind k calls c → endingNumber ending ≡ n
-    → Agrees (endedBy c h ending) (endedAt k calls (h .number) (h .letter) n)
-unfolding endedBy driveOf
-ended-agrees k calls c h ending n b e = record { mark = rw (e, ← stands k calls c b); pass = b }
-
 -- ---- the calls of a tick, the last first
 
-module _ (k : ℕ) (h : Heading) where
-  finish-agrees : (calls : List Call) (c : BodyController) (f : FinishInput) → Behind k calls c → Agrees (finished c h f) (atFinish k calls (h .number) (h .letter) f)
-  unfolding finished
-  finish-agrees calls c f b = ended-agrees k (finish f ∷ calls) (finishOf c f .controller) h _ _ (after k calls c b (finish f) _ _ meets) (ending (finishOf c f .answer) ∙ ap refusalIn (replied k calls c b (finish f) _ _ meets))
+module _ (k number letter : ℕ) where
+  -- the line and the pass of a tick that ended so
+  abbrev shown : FinishResult → Driven
+  shown e = let t = endedBy (e .controller) number letter (endingOf (e .answer)) in carried (t .line) (t .controller)
+
+  ended-agrees : (calls : List Call) (e : FinishResult) (n : ℕ) → Behind k calls (e .controller) → endingNumber (endingOf (e .answer)) ≡ n → Agrees (shown e) (endedAt k calls number letter n)
+  unfolding endedBy carried driveOf
+  ended-agrees calls e n b h = record { mark = rw (h, ← stands k calls (e .controller) b); pass = b }
+
+  finish-agrees : (calls : List Call) (c : BodyController) (f : FinishInput) → Behind k calls c → Agrees (shown (finishOf c f)) (atFinish k calls number letter f)
+  finish-agrees calls c f b = ended-agrees (finish f ∷ calls) (finishOf c f) _ (after k calls c b (finish f) _ _ meets) (ending (finishOf c f .answer) ∙ ap refusalIn (replied k calls c b (finish f) _ _ meets))
     where
       meets : Meets c (finish f) (finishReply (finishOf c f .answer)) (finishOf c f .controller)
       meets = (finishOf c f, refl, refl, refl)
@@ -94,30 +94,30 @@ module _ (k : ℕ) (h : Heading) where
       ending (Finishes.Accepted x) = refl
       ending (Finishes.Refused r) = refl
 
-  steer-agrees : (calls : List Call) (c : BodyController) (s : SteerInput) (f : FinishInput) → Behind k calls c → Agrees (steered c h s f) (atSteer k calls (h .number) (h .letter) s f)
-  unfolding steered
+  steer-agrees : (calls : List Call) (c : BodyController) (s : SteerInput) (f : FinishInput) → Behind k calls c → Agrees (shown (steered c s f)) (atSteer k calls number letter s f)
+  unfolding steered turnedAway
   steer-agrees calls c s f b = go (steerOf c s .answer) refl
     where
       meets : Meets c (steer s) (steerReply (steerOf c s .answer)) (steerOf c s .controller)
       meets = (steerOf c s, refl, refl, refl)
 
-      go : (a : SteerAnswer) → steerOf c s .answer ≡ a → Agrees (steeredWith a (steerOf c s .controller) h f) (atSteer k calls (h .number) (h .letter) s f)
+      go : (a : SteerAnswer) → steerOf c s .answer ≡ a → Agrees (shown (steeredWith a (steerOf c s .controller) f)) (atSteer k calls number letter s f)
       go (Steers.Accepted x) e = rw (sym (replied k calls c b (steer s) _ _ meets) ∙ ap steerReply e) (finish-agrees (steer s ∷ calls) (steerOf c s .controller) f (after k calls c b (steer s) _ _ meets))
-      go (Steers.Refused r) e = rw (sym (replied k calls c b (steer s) _ _ meets) ∙ ap steerReply e) (ended-agrees k (steer s ∷ calls) (steerOf c s .controller) h _ _ (after k calls c b (steer s) _ _ meets) refl)
+      go (Steers.Refused r) e = rw (sym (replied k calls c b (steer s) _ _ meets) ∙ ap steerReply e) (ended-agrees (steer s ∷ calls) (turnedAway (steerOf c s .controller) r) _ (after k calls c b (steer s) _ _ meets) refl)
 
-  plan-agrees : (calls : List Call) (c : BodyController) (p : PlanInput) (s : SteerInput) (f : FinishInput) → Behind k calls c → Agrees (planned c h p s f) (atPlan k calls (h .number) (h .letter) p s f)
-  unfolding planned
+  plan-agrees : (calls : List Call) (c : BodyController) (p : PlanInput) (s : SteerInput) (f : FinishInput) → Behind k calls c → Agrees (shown (planned c p s f)) (atPlan k calls number letter p s f)
+  unfolding planned turnedAway
   plan-agrees calls c p s f b = go (planOf c p .answer) refl
     where
       meets : Meets c (plan p) (planReply (planOf c p .answer)) (planOf c p .controller)
       meets = (planOf c p, refl, refl, refl)
 
-      go : (a : PlanCallAnswer) → planOf c p .answer ≡ a → Agrees (plannedWith a (planOf c p .controller) h s f) (atPlan k calls (h .number) (h .letter) p s f)
+      go : (a : PlanCallAnswer) → planOf c p .answer ≡ a → Agrees (shown (plannedWith a (planOf c p .controller) s f)) (atPlan k calls number letter p s f)
       go (Plans.Accepted x) e = rw (sym (replied k calls c b (plan p) _ _ meets) ∙ ap planReply e) (steer-agrees (plan p ∷ calls) (planOf c p .controller) s f (after k calls c b (plan p) _ _ meets))
-      go (Plans.Refused r) e = rw (sym (replied k calls c b (plan p) _ _ meets) ∙ ap planReply e) (ended-agrees k (plan p ∷ calls) (planOf c p .controller) h _ _ (after k calls c b (plan p) _ _ meets) refl)
+      go (Plans.Refused r) e = rw (sym (replied k calls c b (plan p) _ _ meets) ∙ ap planReply e) (ended-agrees (plan p ∷ calls) (turnedAway (planOf c p .controller) r) _ (after k calls c b (plan p) _ _ meets) refl)
 
 tick-agrees : (k : ℕ) (calls : List Call) (c : BodyController) (b : TickBlock) → Behind k calls c → Agrees (tickedOn c b) (plainTick k calls b)
-unfolding ticked plainTick refusedBy
+unfolding tickedOn ticked plainTick Tick.refusedAt carried
 tick-agrees k calls c b m = go (sightOf c (b .sight) .answer) refl
   where
     meets : Meets c (sight (b .sight)) (sightReply (sightOf c (b .sight) .answer)) (sightOf c (b .sight) .controller)
@@ -126,10 +126,10 @@ tick-agrees k calls c b m = go (sightOf c (b .sight) .answer) refl
     ticks : c .ticks ≡ Plain.driven k calls .ticks
     ticks = unfold driveOf in ap (λ (s : Plain.DriveState). s .ticks) (stands k calls c m)
 
-    go : (a : SightAnswer) → sightOf c (b .sight) .answer ≡ a → Agrees (tickedWith a c (sightOf c (b .sight) .controller) (b .plan) (b .steer) (b .finish)) (plainTick k calls b)
+    go : (a : SightAnswer) → sightOf c (b .sight) .answer ≡ a → (let t = tickedWith a c (sightOf c (b .sight) .controller) (b .plan) (b .steer) (b .finish) in Agrees (carried (t .line) (t .controller)) (plainTick k calls b))
     go (Sights.Accepted x) e =
         rw (sym (replied k calls c m (sight (b .sight)) _ _ meets) ∙ ap sightReply e, ← ticks)
-        (plan-agrees k _ (sight (b .sight) ∷ calls) (sightOf c (b .sight) .controller) (b .plan) (b .steer) (b .finish) (after k calls c m (sight (b .sight)) _ _ meets))
+        (plan-agrees k _ _ (sight (b .sight) ∷ calls) (sightOf c (b .sight) .controller) (b .plan) (b .steer) (b .finish) (after k calls c m (sight (b .sight)) _ _ meets))
     go (Sights.Refused r) e = rw (sym (replied k calls c m (sight (b .sight)) _ _ meets) ∙ ap sightReply e) (record { mark = rw ticks; pass = m })
 
 -- ---- a block

@@ -1,9 +1,9 @@
 // A tick, a term of document 01: the calls sight, plan, steer and finish, and the tick's line.
 ghost use mathlib.Core.Path.{_≡_};
-ghost use Rattle.drive_pass.specs.Pass.{refusedBy};
-ghost use Rattle.tick_calls.specs.Tick.{endingOf, endedBy, finished, steered, planned, ticked};
+ghost use Rattle.tick_calls.specs.Tick.{endingOf, endedBy, turnedAway, refusedAt, steered, planned, ticked};
 use body_controller::BodyController;
 use body_controller::FinishAnswer;
+use body_controller::FinishResult;
 use body_controller::PlanCallAnswer;
 use body_controller::SightAnswer;
 use body_controller::SteerAnswer;
@@ -11,33 +11,16 @@ use call_inputs::FinishInput;
 use call_inputs::PlanInput;
 use call_inputs::SightInput;
 use call_inputs::SteerInput;
-use drive_pass::Driven;
-use drive_pass::Pass;
 use line_text::Ending;
 use line_text::Line;
+use line_text::RefusedLine;
 use line_text::TickLine;
+use tick_parts::Refusal;
 
-// What a tick's line begins with.
-pub struct Heading {
-    pub number: u32,
-    pub letter: u8,
-}
-
-// The line of a tick that ended, with the marks at its end.
-fn end_tick(c: BodyController, h: Heading, ending: Ending) -> Driven
-    ensures { λ r. ⌜ r ≡ endedBy c h ending ⌝ }
-{
-    let line = TickLine {
-        number: h.number,
-        letter: h.letter,
-        active: c.vision_active(),
-        recovering: c.tracking_divergence_recovery_active(),
-        ending,
-    };
-    Driven {
-        line: Line::Tick(line),
-        pass: Pass::Driving(c),
-    }
+// A block's line, and the controller as the block leaves it.
+pub struct Ticked {
+    pub line: Line,
+    pub controller: BodyController,
 }
 
 // Four wheel speeds, or the refusal's number.
@@ -56,56 +39,82 @@ fn ending_of(answer: FinishAnswer) -> Ending
     }
 }
 
-fn finish_tick(c: BodyController, h: Heading, finish: FinishInput) -> Driven
-    ensures { λ r. ⌜ r ≡ finished c h finish ⌝ }
+// The line of a tick that ended, with the marks at its end.
+fn end_tick(c: BodyController, number: u32, letter: u8, ending: Ending) -> Ticked
+    ensures { λ r. ⌜ r ≡ endedBy c number letter ending ⌝ }
 {
-    let result = c.finish(finish);
-    let answer = result.answer;
-    let ending = ending_of(answer);
-    end_tick(result.controller, h, ending)
+    let line = TickLine {
+        number,
+        letter,
+        active: c.vision_active(),
+        recovering: c.tracking_divergence_recovery_active(),
+        ending,
+    };
+    Ticked {
+        line: Line::Tick(line),
+        controller: c,
+    }
 }
 
-fn steer_tick(c: BodyController, h: Heading, steer: SteerInput, finish: FinishInput) -> Driven
-    ensures { λ r. ⌜ r ≡ steered c h steer finish ⌝ }
+// A refused call's answer in the place of finish's: it ends the tick.
+fn turn_away(c: BodyController, refusal: Refusal) -> FinishResult
+    ensures { λ r. ⌜ r ≡ turnedAway c refusal ⌝ }
+{
+    FinishResult {
+        answer: FinishAnswer::Refused(refusal),
+        controller: c,
+    }
+}
+
+// Steer and finish. A refused steer ends the tick.
+fn steer_tick(c: BodyController, steer: SteerInput, finish: FinishInput) -> FinishResult
+    ensures { λ r. ⌜ r ≡ steered c steer finish ⌝ }
 {
     let result = c.steer(steer);
     let answer = result.answer;
     match answer {
-        SteerAnswer::Accepted(t) => {
-            return finish_tick(result.controller, h, finish);
+        SteerAnswer::Accepted(_) => {
+            return result.controller.finish(finish);
         }
         SteerAnswer::Refused(r) => {
-            return end_tick(result.controller, h, Ending::Failed(r.number()));
+            return turn_away(result.controller, r);
         }
     }
 }
 
+// Plan, and the calls behind it. A refused plan ends the tick.
 fn plan_tick(
     c: BodyController,
-    h: Heading,
     plan: PlanInput,
     steer: SteerInput,
     finish: FinishInput,
-) -> Driven
-    ensures { λ r. ⌜ r ≡ planned c h plan steer finish ⌝ }
+) -> FinishResult
+    ensures { λ r. ⌜ r ≡ planned c plan steer finish ⌝ }
 {
     let result = c.plan(plan);
     let answer = result.answer;
     match answer {
-        PlanCallAnswer::Accepted(a) => {
-            return steer_tick(result.controller, h, steer, finish);
+        PlanCallAnswer::Accepted(_) => {
+            return steer_tick(result.controller, steer, finish);
         }
         PlanCallAnswer::Refused(r) => {
-            return end_tick(result.controller, h, Ending::Failed(r.number()));
+            return turn_away(result.controller, r);
         }
     }
 }
 
 // A block that sight refused; the controller stays.
-fn refuse_tick(c: BodyController, refusal: u8) -> Driven
-    ensures { λ r. ⌜ r ≡ refusedBy refusal (Pass.Driving c) ⌝ }
+fn refuse_tick(c: BodyController, refusal: u8) -> Ticked
+    ensures { λ r. ⌜ r ≡ refusedAt c refusal ⌝ }
 {
-    Pass::Driving(c).refuse(refusal)
+    let line = RefusedLine {
+        number: c.ticks(),
+        refusal,
+    };
+    Ticked {
+        line: Line::Refused(line),
+        controller: c,
+    }
 }
 
 // A tick: the four calls, up to the first that is turned away. Where that is sight, the block is
@@ -116,7 +125,7 @@ pub fn drive_tick(
     plan: PlanInput,
     steer: SteerInput,
     finish: FinishInput,
-) -> Driven
+) -> Ticked
     ensures { λ r. ⌜ r ≡ ticked c sight plan steer finish ⌝ }
 {
     let result = c.sight(sight);
@@ -124,12 +133,9 @@ pub fn drive_tick(
     match answer {
         SightAnswer::Accepted(s) => {
             let action = s.action;
-            let letter = action.letter();
-            let heading = Heading {
-                number: c.ticks(),
-                letter,
-            };
-            return plan_tick(result.controller, heading, plan, steer, finish);
+            let end = plan_tick(result.controller, plan, steer, finish);
+            let last = end.answer;
+            return end_tick(end.controller, c.ticks(), action.letter(), ending_of(last));
         }
         SightAnswer::Refused(r) => {
             return refuse_tick(c, r.number());

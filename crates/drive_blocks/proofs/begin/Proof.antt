@@ -13,12 +13,12 @@ new-requires c κs = search needs
 enum-known-made : tie.Need-enum-known-made
 enum-known-made c = search needs
 
-drive-tick-requires : tie.Need-drive-tick-requires
-drive-tick-requires c κs = search needs
+drive-on-requires : tie.Need-drive-on-requires
+drive-on-requires c κs = search needs
 
 returns : tie.Need-returns
 unfolding begun
-returns c = rw (c .drive-tick .ensures, ← c .before .before .before .before .new .ensures .0, c .before .before .made .given .1)
+returns c = rw (c .drive-on .ensures, ← c .before .before .before .before .new .ensures .0, c .before .before .made .given .1)
 
 enum-known-made-2 : tie.Need-enum-known-made-2
 enum-known-made-2 c = search needs
@@ -40,7 +40,7 @@ begin-spec =
     cast-new
     new-requires
     enum-known-made
-    drive-tick-requires
+    drive-on-requires
     returns
     enum-known-made-2
     number-requires

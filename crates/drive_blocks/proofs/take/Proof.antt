@@ -5,9 +5,6 @@ use Rattle.drive_blocks.specs.Blocks.{taken}
 use Rattle.drive_blocks.proofs.take.Statement.{statement}
 use Rattle.drive_blocks.proofs.take.Tie as tie
 
-order-refusal-requires : tie.Need-order-refusal-requires
-order-refusal-requires c κs = search needs
-
 enum-told : tie.Need-enum-told
 enum-told c = search needs
 
@@ -16,35 +13,59 @@ begin-requires c κs = search needs
 
 returns : tie.Need-returns
 unfolding taken
-returns c = rw (c .begin .ensures, ← c .before .before .before .before .order-refusal .ensures, eq-eqb _ _ (c .before .before .before .if1 .taken), c .before .enum-told .given .1)
-
-enum-known-pass : tie.Need-enum-known-pass
-enum-known-pass c = search needs
-
-drive-tick-requires : tie.Need-drive-tick-requires
-drive-tick-requires c κs = search needs
-
-returns-2 : tie.Need-returns-2
-unfolding taken
-returns-2 c = rw (c .drive-tick .ensures, ← c .before .before .before .before .before .order-refusal .ensures, eq-eqb _ _ (c .before .before .before .before .if1 .taken), c .before .before .pass .given .1)
+returns c = rw (c .begin .ensures, c .before .before .before .enum-told .given .1, eq-eqb _ _ (c .before .if1 .taken))
 
 refuse-requires : tie.Need-refuse-requires
 refuse-requires c κs = search needs
 
+returns-2 : tie.Need-returns-2
+unfolding taken
+returns-2 c = rw (c .refuse .ensures, c .before .before .before .enum-told .given .1, ne-eqb _ _ (c .before .if1 .left))
+
+enum-known-pass : tie.Need-enum-known-pass
+enum-known-pass c = search needs
+
+tick-length-requires : tie.Need-tick-length-requires
+tick-length-requires c κs = search needs
+
+ticks-requires : tie.Need-ticks-requires
+ticks-requires c κs = search needs
+
+order-refusal-requires : tie.Need-order-refusal-requires
+order-refusal-requires c κs = search needs
+
+drive-on-requires : tie.Need-drive-on-requires
+drive-on-requires c κs = search needs
+
 returns-3 : tie.Need-returns-3
 unfolding taken
-returns-3 c = rw (c .refuse .ensures, ← c .before .before .order-refusal .ensures, ne-eqb _ _ (c .before .if1 .left))
+returns-3 c =
+    let order = c .before .before in
+    rw (c .drive-on .ensures, order .before .before .before .before .pass .given .1, ← order .before .before .tick-length .ensures, ← order .before .ticks .ensures, ← order .order-refusal .ensures, eq-eqb _ _ (c .before .if2 .taken))
+
+refuse-requires-2 : tie.Need-refuse-requires-2
+refuse-requires-2 c κs = search needs
+
+returns-4 : tie.Need-returns-4
+unfolding taken
+returns-4 c =
+    let order = c .before .before in
+    rw (c .refuse2 .ensures, order .before .before .before .before .pass .given .1, ← order .before .before .tick-length .ensures, ← order .before .ticks .ensures, ← order .order-refusal .ensures, ne-eqb _ _ (c .before .if2 .left))
 
 pub take-spec : {M : Type 1} → statement M
 take-spec =
     tie.close
     (tie.spec
-    order-refusal-requires
     enum-told
     begin-requires
     returns
-    enum-known-pass
-    drive-tick-requires
-    returns-2
     refuse-requires
-    returns-3)
+    returns-2
+    enum-known-pass
+    tick-length-requires
+    ticks-requires
+    order-refusal-requires
+    drive-on-requires
+    returns-3
+    refuse-requires-2
+    returns-4)

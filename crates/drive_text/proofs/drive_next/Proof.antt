@@ -5,7 +5,7 @@ use mathlib.Core.List.{List, _++_}
 use native.Mathlib.Omega.{arith}
 use lib.ListN.{length, take, drop}
 use lib.Seq.{take-at}
-use Rattle.drive_text.specs.declared.Written.{Written}
+use Rattle.driven_text.specs.declared.Written.{Written}
 use Rattle.drive_text.specs.Written.{written, blockText}
 use Rattle.drive_text.specs.Batch.{nextOf}
 use borrow.Author.Needs.{needs}

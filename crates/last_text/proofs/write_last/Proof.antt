@@ -1,7 +1,7 @@
--- `drive_text::write_last` meets its contract. Assumes nothing.
+-- `last_text::write_last` meets its contract. Assumes nothing.
 use borrow.Author.Needs.{needs}
-use Rattle.drive_text.proofs.write_last.Statement.{statement}
-use Rattle.drive_text.proofs.write_last.Tie as tie
+use Rattle.last_text.proofs.write_last.Statement.{statement}
+use Rattle.last_text.proofs.write_last.Tie as tie
 
 next-number-requires : tie.Need-next-number-requires
 next-number-requires c κs = search needs

@@ -1,0 +1,2 @@
+-- The pass theorem of batches. Assumes nothing.
+pub mod BatchHolds

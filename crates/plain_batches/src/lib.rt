@@ -1,0 +1,1 @@
+// The pass theorem of batches: its statement in specs/, the theorem in proofs/. No code.
