@@ -1,26 +1,16 @@
 -- active_brake.rs over the PID controller of four axes, one for each wheel. Assumes nothing.
 use Prim.Native.Nat.{ℕ}
 use mathlib.Core.Bool.{cond}
-use lib.Ieee.{neg}
 use Rattle.linear.specs.declared.Vector4f.{Vector4f}
-use Rattle.linear.specs.Vector.{zeroFloat, zeros4}
-use Rattle.controller_params.specs.Params.{brakeKp, brakeAntiJitterRads, brakeMaxCurrentA}
+use Rattle.linear.specs.Vector.{zeros4}
 use Rattle.tick_length.specs.TickLength.{isTickLength, secondsOf}
 use Rattle.tick_length.specs.TickLength as tick
-use Rattle.pid.specs.declared.PidController.{PidController}
-use Rattle.pid.specs.declared.AntiJitterThresh.the-variants.{Below}
-use Rattle.pid.specs.declared.OutputLimits.the-variants.{Between}
-use Rattle.pid.specs.Axis.{newController}
+use Rattle.brake_wheel.specs.Wheel.{wheelController}
 use Rattle.pid_four.specs.Four.{calculated4, reset4}
 use Rattle.active_brake.specs.declared.ActiveBrakeController.{ActiveBrakeController}
 use Rattle.active_brake.specs.declared.BrakeMade.{BrakeMade}
 use Rattle.active_brake.specs.declared.BrakeMade.the-variants.{Made, Refused}
 use Rattle.active_brake.specs.declared.BrakeAnswer.{BrakeAnswer}
-
--- Kp alone, scaled toward zero below BRAKE_ANTI_JITTER_RADS, and held to ±BRAKE_MAX_CURRENT_A
-unfoldable pub wheelController : PidController
-wheelController =
-    newController (record { kp = brakeKp; ki = zeroFloat; kd = zeroFloat; «ki_err_min» = zeroFloat; «ki_err_max» = zeroFloat }) (Below brakeAntiJitterRads) (Between (neg brakeMaxCurrentA) brakeMaxCurrentA)
 
 -- a brake that remembers nothing, for the tick length k
 unfoldable pub newBrake : ℕ → ActiveBrakeController

@@ -1,15 +1,9 @@
 // active_brake.rs: each wheel is driven to rest by a P controller on its measured speed.
 ghost use mathlib.Core.Path.{_≡_};
-ghost use Rattle.active_brake.specs.Brake.{wheelController, brakeOf, refusalNumber, refusalOf, newBrake, computed, resetBrake};
-use controller_params::BRAKE_ANTI_JITTER_RADS;
-use controller_params::BRAKE_KP;
-use controller_params::BRAKE_MAX_CURRENT_A;
-use controller_params::PidGains;
+ghost use Rattle.active_brake.specs.Brake.{brakeOf, refusalNumber, refusalOf, newBrake, computed, resetBrake};
+use brake_wheel::wheel_controller;
 use linear::Vector4f;
 use linear::ZEROS_4;
-use pid::AntiJitterThresh;
-use pid::OutputLimits;
-use pid::PidController;
 use pid_four::PidController4;
 use tick_length::TickLength;
 use tick_length::TickLengthAnswer;
@@ -29,22 +23,6 @@ pub enum BrakeMade {
 pub struct BrakeAnswer {
     pub currents: Vector4f,
     pub controller: ActiveBrakeController,
-}
-
-// One wheel's controller: Ki and Kd are zero, as in the Rust.
-fn wheel_controller() -> PidController
-    ensures { λ r. ⌜ r ≡ wheelController ⌝ }
-{
-    let gain = PidGains {
-        kp: BRAKE_KP,
-        ki: 0.0,
-        kd: 0.0,
-        ki_err_min: 0.0,
-        ki_err_max: 0.0,
-    };
-    let thresh = AntiJitterThresh::Below(BRAKE_ANTI_JITTER_RADS);
-    let limits = OutputLimits::Between(-BRAKE_MAX_CURRENT_A, BRAKE_MAX_CURRENT_A);
-    PidController::new(gain, thresh, limits)
 }
 
 // The brake of a tick length.

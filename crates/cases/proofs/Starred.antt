@@ -10,7 +10,7 @@ use Rattle.float_hypot.proofs.Cases as Hypot
 use Rattle.tick_length.specs.TickLength.{isTickLength, tickLengthOf}
 use Rattle.tick_length.proofs.Cases as Length
 use Rattle.active_brake.specs.Brake.{brakeOf}
-use Rattle.active_brake.proofs.Cases as Brake
+use Rattle.brake_wheel.proofs.Cases as Wheel
 use Rattle.encoder_lag.specs.EncoderLag.{lagOf}
 use Rattle.encoder_lag.proofs.Cases as Lag
 use Rattle.vision_gate.proofs.Cases as Gate
@@ -34,9 +34,9 @@ apart true false c d h = absurd h
 apart false b c d h = absurd h
 
 currents : (k : ℕ) → isTickLength k ≡ true → Currents k
-unfolding Brake.starred Brake.freshCurrent
+unfolding Wheel.starred Wheel.freshCurrent
 currents k h =
-    let each = apart (eqb (currentBits k (float 0x43fa_0000)) 0xbf80_0000) (eqb (currentBits k (float 0xc3fa_0000)) 0x3f80_0000) (eqb (currentBits k (float 0x7fc0_0000)) 0xbf80_0000) (eqb (currentBits k (float 0xff80_0000)) 0xbf80_0000) (Brake.fresh-brake k h) in
+    let each = apart (eqb (currentBits k (float 0x43fa_0000)) 0xbf80_0000) (eqb (currentBits k (float 0xc3fa_0000)) 0x3f80_0000) (eqb (currentBits k (float 0x7fc0_0000)) 0xbf80_0000) (eqb (currentBits k (float 0xff80_0000)) 0xbf80_0000) (Wheel.fresh-brake k h) in
     record {
       plus = eqb-true (currentBits k (float 0x43fa_0000)) 0xbf80_0000 (each .0);
       minus = eqb-true (currentBits k (float 0xc3fa_0000)) 0x3f80_0000 (each .1);

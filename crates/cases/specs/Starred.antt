@@ -10,6 +10,7 @@ use Rattle.linear.specs.declared.Vector3f.{Vector3f}
 use Rattle.linear.specs.Vector.{zeroFloat}
 use Rattle.tick_length.specs.TickLength.{isTickLength, secondsOf, microsOf}
 use Rattle.pid.specs.Axis.{calculated}
+use Rattle.brake_wheel.specs.Wheel.{wheelController}
 use Rattle.active_brake.specs.Brake as Brake
 use Rattle.encoder_lag.specs.EncoderLag as Lag
 use Rattle.vision_gate.specs.Vision.{active}
@@ -27,7 +28,7 @@ activeAt k m = active (clockSince zeroFloat (secondsOf k) m)
 
 -- the bits of the current that a fresh brake gives a wheel of this speed
 abbrev pub currentBits : ℕ → Float → ℕ
-currentBits k speed = toBits binary32 (calculated Brake.wheelController zeroFloat speed (secondsOf k) .output)
+currentBits k speed = toBits binary32 (calculated wheelController zeroFloat speed (secondsOf k) .output)
 
 -- a twist of 10.0 along x and y, and of 5.0·TAU
 abbrev pub atBounds : Vector3f

@@ -1,8 +1,7 @@
 // params/controller_params.rs: every constant that the tick, the brake and the encoder lag use,
 // under its Rust name and worked out in f32 in the Rust's order; at the end those of other files.
-// A caller takes one by its path, as controller_params::BRAKE_KP; specs/ has its bits.
-ghost use mathlib.Core.Path.{_≡_};
-ghost use Rattle.controller_params.specs.Params.{trackingValues, limitValues, countValues};
+// Types and constants alone, for most crates read this one; specs/ has the bits of each, and
+// `param_values` ties it to them.
 use linear::Vector3f;
 
 // A PID's gains for one axis, a row of the Rust's matrices.
@@ -142,73 +141,3 @@ pub const VISION_ACTIVE_TIMEOUT_S: f32 = 0.5;
 
 // control_context.rs: where a new and a reset vision clock stand.
 pub const VISION_CLOCK_START_S: f32 = VISION_ACTIVE_TIMEOUT_S + 1.0;
-
-// The three functions below list every constant above, in this file's order. Their contracts tie
-// each to its bits in specs/.
-
-// Gains, thresholds and gates.
-pub fn tracking_values() -> [f32; 23]
-    ensures { λ r. ⌜ r ≡ trackingValues ⌝ }
-{
-    [
-        LINEAR_POSE_PID_GAINS.kp,
-        LINEAR_POSE_PID_GAINS.ki,
-        LINEAR_POSE_PID_GAINS.kd,
-        LINEAR_POSE_PID_GAINS.ki_err_min,
-        LINEAR_POSE_PID_GAINS.ki_err_max,
-        ANGULAR_POSE_PID_GAINS.kp,
-        ANGULAR_POSE_PID_GAINS.ki,
-        ANGULAR_POSE_PID_GAINS.kd,
-        ANGULAR_POSE_PID_GAINS.ki_err_min,
-        ANGULAR_POSE_PID_GAINS.ki_err_max,
-        POSE_PID_ANTI_JITTER_THRESH.x,
-        POSE_PID_ANTI_JITTER_THRESH.y,
-        POSE_PID_ANTI_JITTER_THRESH.z,
-        POSE_ACCEL_FEEDBACK_GAIN,
-        POSE_VEL_FEEDFORWARD_GAIN,
-        TRACKING_ERROR_THRESHOLD.pos_linear,
-        TRACKING_ERROR_THRESHOLD.pos_angular,
-        TRACKING_ERROR_THRESHOLD.vel_linear,
-        TRACKING_ERROR_THRESHOLD.vel_angular,
-        FRICTION_COMP_GATING.linear_vel,
-        FRICTION_COMP_GATING.linear_accel,
-        FRICTION_COMP_GATING.angular_vel,
-        FRICTION_COMP_GATING.angular_accel,
-    ]
-}
-
-// Clamps, and the numbers of brake, recovery, vision and encoder lag.
-pub fn limit_values() -> [f32; 16]
-    ensures { λ r. ⌜ r ≡ limitValues ⌝ }
-{
-    [
-        BODY_ACCEL_CLAMP_LINEAR,
-        BODY_ACCEL_CLAMP_ANGULAR,
-        BODY_VEL_CLAMP_LINEAR,
-        BODY_VEL_CLAMP_ANGULAR,
-        STOP_STATE_LINEAR_SPEED_LIMIT,
-        BRAKE_KP,
-        BRAKE_ANTI_JITTER_RADS,
-        BRAKE_MAX_CURRENT_A,
-        TRACKING_DIVERGENCE_RECOVERY_REST_WHEEL_VEL,
-        VISION_SEED_POS_STD_THRESH_M,
-        VISION_GATE_BASE_RADIUS_M,
-        VISION_GATE_EXPAND_RATE_M_PER_S,
-        ENC_LAG_K,
-        ENC_LAG_T_SLOPE,
-        VISION_ACTIVE_TIMEOUT_S,
-        VISION_CLOCK_START_S,
-    ]
-}
-
-// Counts and durations.
-pub fn count_values() -> [u32; 4]
-    ensures { λ r. ⌜ r ≡ countValues ⌝ }
-{
-    [
-        TRACKING_DIVERGENCE_RECOVERY_REST_TICKS,
-        VISION_SEED_SAMPLES,
-        ENC_LAG_T_HORIZON,
-        T_MIN_DEFAULT,
-    ]
-}

@@ -72,7 +72,7 @@ impl PidController {
     }
 
     // What both calculations do with an error and its derivative.
-    fn respond(self, error: f32, derivative: f32, dt_s: f32) -> PidAnswer
+    fn respond(mut self, error: f32, derivative: f32, dt_s: f32) -> PidAnswer
         ensures { λ r. ⌜ r ≡ response self error derivative «dt_s» ⌝ }
     {
         let gain = self.gain;
@@ -82,14 +82,12 @@ impl PidController {
         let integrated = clamp(sum, gain.ki_err_min, gain.ki_err_max);
         let pid = gain.kp * error + gain.ki * integrated + gain.kd * derivative;
         let output = apply_output_limits(limits, apply_anti_jitter(thresh, pid, error));
-        let controller = PidController {
-            gain,
-            anti_jitter_thresh: thresh,
-            output_limits: limits,
-            prev_error: error,
-            integrated_error: integrated,
-        };
-        PidAnswer { output, controller }
+        self.prev_error = error;
+        self.integrated_error = integrated;
+        PidAnswer {
+            output,
+            controller: self,
+        }
     }
 
     pub fn calculate(self, setpoint: f32, process_variable: f32, dt_s: f32) -> PidAnswer
@@ -113,12 +111,11 @@ impl PidController {
         self.respond(setpoint - process_variable, derivative, dt_s)
     }
 
-    pub fn reset(self) -> PidController
+    pub fn reset(mut self) -> PidController
         ensures { λ r. ⌜ r ≡ resetOf self ⌝ }
     {
-        let mut out = self;
-        out.prev_error = 0.0;
-        out.integrated_error = 0.0;
-        out
+        self.prev_error = 0.0;
+        self.integrated_error = 0.0;
+        self
     }
 }

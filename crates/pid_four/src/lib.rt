@@ -71,14 +71,13 @@ impl PidController4 {
         joined4(x, y, z, w)
     }
 
-    pub fn reset(self) -> PidController4
+    pub fn reset(mut self) -> PidController4
         ensures { λ r. ⌜ r ≡ reset4 self ⌝ }
     {
-        PidController4 {
-            x: self.x.reset(),
-            y: self.y.reset(),
-            z: self.z.reset(),
-            w: self.w.reset(),
-        }
+        self.x = self.x.reset();
+        self.y = self.y.reset();
+        self.z = self.z.reset();
+        self.w = self.w.reset();
+        self
     }
 }

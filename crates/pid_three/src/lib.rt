@@ -65,13 +65,12 @@ impl PidController3 {
         joined3(x, y, z)
     }
 
-    pub fn reset(self) -> PidController3
+    pub fn reset(mut self) -> PidController3
         ensures { λ r. ⌜ r ≡ reset3 self ⌝ }
     {
-        PidController3 {
-            x: self.x.reset(),
-            y: self.y.reset(),
-            z: self.z.reset(),
-        }
+        self.x = self.x.reset();
+        self.y = self.y.reset();
+        self.z = self.z.reset();
+        self
     }
 }

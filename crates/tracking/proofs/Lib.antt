@@ -1,3 +1,2 @@
 -- Laws and cases. Assumes nothing.
 pub mod Cases
-pub mod Pid

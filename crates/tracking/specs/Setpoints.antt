@@ -11,8 +11,6 @@ use Rattle.pid.specs.declared.AntiJitterThresh.the-variants.{Below}
 use Rattle.pid.specs.declared.OutputLimits.the-variants.{Absent}
 use Rattle.pid.specs.declared.PidController.{PidController}
 use Rattle.pid.specs.Axis.{calculatedWithDerivative}
-use Rattle.pid_three.specs.declared.PidController3.{PidController3}
-use Rattle.pid_three.specs.Three.{calculatedWithDerivative3}
 use Rattle.setpoints.specs.declared.PidMemory.{PidMemory}
 use Rattle.tracking.specs.declared.AxisAnswer.{AxisAnswer}
 use Rattle.tracking.specs.declared.PoseAnswer.{PoseAnswer}
@@ -22,31 +20,26 @@ use Rattle.tracking.specs.declared.TrackingAnswer.{TrackingAnswer}
 unfoldable pub poseAxis : PidGains → Float → Float → Float → PidController
 poseAxis gain thresh error sum = record { gain = gain; «anti_jitter_thresh» = Below thresh; «output_limits» = Absent; «prev_error» = error; «integrated_error» = sum }
 
--- 'Steer', the PID of tracking: the linear gains for x and y, the angular ones for the heading, a threshold for each axis
-unfoldable pub posePid : PidMemory → PidController3
-posePid m = record {
-  x = poseAxis linearPosePidGains (posePidAntiJitterThresh .x) (m .«prev_error» .x) (m .«integrated_error» .x);
-  y = poseAxis linearPosePidGains (posePidAntiJitterThresh .y) (m .«prev_error» .y) (m .«integrated_error» .y);
-  z = poseAxis angularPosePidGains (posePidAntiJitterThresh .z) (m .«prev_error» .z) (m .«integrated_error» .z);
-}
-
-unfoldable pub pidMemory : PidController3 → PidMemory
-pidMemory c = record {
-  «prev_error» = record { x = c .x .«prev_error»; y = c .y .«prev_error»; z = c .z .«prev_error» };
-  «integrated_error» = record { x = c .x .«integrated_error»; y = c .y .«integrated_error»; z = c .z .«integrated_error» };
-}
-
 -- what one axis answers, and what it remembers
 unfoldable pub axisAnswered : PidController → Float → Float → Float → Float → AxisAnswer
 axisAnswered c s v d dt =
     let a = calculatedWithDerivative c s v d dt in
     record { output = a .output; «prev_error» = a .controller .«prev_error»; «integrated_error» = a .controller .«integrated_error» }
 
--- what the PID of tracking answers, and what it remembers
+-- 'Steer', the PID of tracking, pid.rs axis by axis: the linear gains for x and y, the angular ones for the heading, a threshold for each axis.
+-- That it is pid.rs's controller of three axes is a law (`pose_pid`)
 unfoldable pub poseAnswered : PidMemory → Vector3f → Vector3f → Vector3f → Float → PoseAnswer
 poseAnswered m s v d dt =
-    let a = calculatedWithDerivative3 (posePid m) s v d dt in
-    record { output = a .output; pid = pidMemory (a .controller) }
+    let x = axisAnswered (poseAxis linearPosePidGains (posePidAntiJitterThresh .x) (m .«prev_error» .x) (m .«integrated_error» .x)) (s .x) (v .x) (d .x) dt in
+    let y = axisAnswered (poseAxis linearPosePidGains (posePidAntiJitterThresh .y) (m .«prev_error» .y) (m .«integrated_error» .y)) (s .y) (v .y) (d .y) dt in
+    let z = axisAnswered (poseAxis angularPosePidGains (posePidAntiJitterThresh .z) (m .«prev_error» .z) (m .«integrated_error» .z)) (s .z) (v .z) (d .z) dt in
+    record {
+      output = record { x = x .output; y = y .output; z = z .output };
+      pid = record {
+        «prev_error» = record { x = x .«prev_error»; y = y .«prev_error»; z = z .«prev_error» };
+        «integrated_error» = record { x = x .«integrated_error»; y = y .«integrated_error»; z = z .«integrated_error» };
+      };
+    }
 
 -- 'Steer', `calc_tracking_setpoints`: the sample's place, its heading the one within half a turn of the estimate's, by the remainder of 'Stand-ins'
 unfoldable pub wrapped : Vector3f → Vector3f → Vector3f
@@ -63,8 +56,8 @@ accelSetpoint feedback = sumOf zeros3 (scaled feedback poseAccelFeedbackGain)
 -- 'Steer', `calc_tracking_setpoints`: from the estimate and a sample's state, over dt. The PID goes to the wrapped place, with the velocities' difference as derivative
 unfoldable pub trackingSetpoints : PidMemory → Vector6f → Vector6f → Float → TrackingAnswer
 trackingSetpoints pid estimate sample dt =
-    let answer = calculatedWithDerivative3 (posePid pid) (wrapped (sample .pose) (estimate .pose)) (estimate .pose) (differenceOf (sample .twist) (estimate .twist)) dt in
+    let answer = poseAnswered pid (wrapped (sample .pose) (estimate .pose)) (estimate .pose) (differenceOf (sample .twist) (estimate .twist)) dt in
     record {
       setpoints = record { «body_twist» = twistSetpoint (sample .twist); «body_accel» = accelSetpoint (answer .output) };
-      pid = pidMemory (answer .controller);
+      pid = answer .pid;
     }

@@ -1,6 +1,6 @@
 -- `tracking::calc_tracking_setpoints` meets its contract. Assumes nothing.
 use borrow.Author.Needs.{needs}
-use Rattle.tracking.specs.Setpoints.{poseAnswered, trackingSetpoints}
+use Rattle.tracking.specs.Setpoints.{trackingSetpoints}
 use Rattle.tracking.proofs.calc_tracking_setpoints.Statement.{statement}
 use Rattle.tracking.proofs.calc_tracking_setpoints.Tie as tie
 
@@ -20,7 +20,7 @@ accel-setpoint-requires : tie.Need-accel-setpoint-requires
 accel-setpoint-requires c κs = search needs
 
 returns : tie.Need-returns
-unfolding trackingSetpoints poseAnswered
+unfolding trackingSetpoints
 returns c =
     let p = c .before .before .before in
     simp (p .before .before .wrapped .ensures, p .before .sub .ensures, p .pose-pid .ensures, c .before .twist-setpoint .ensures, c .accel-setpoint .ensures)

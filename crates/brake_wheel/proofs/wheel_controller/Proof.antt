@@ -1,8 +1,8 @@
--- `active_brake::wheel_controller` meets its contract. Assumes nothing.
-use Rattle.active_brake.specs.Brake.{wheelController}
+-- `brake_wheel::wheel_controller` meets its contract. Assumes nothing.
+use Rattle.brake_wheel.specs.Wheel.{wheelController}
 use borrow.Author.Needs.{needs}
-use Rattle.active_brake.proofs.wheel_controller.Statement.{statement}
-use Rattle.active_brake.proofs.wheel_controller.Tie as tie
+use Rattle.brake_wheel.proofs.wheel_controller.Statement.{statement}
+use Rattle.brake_wheel.proofs.wheel_controller.Tie as tie
 
 new-requires : tie.Need-new-requires
 new-requires c κs = search needs

@@ -1,0 +1,2 @@
+-- Laws of the pose's PID. Assumes nothing.
+pub mod Laws
