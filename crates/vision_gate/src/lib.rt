@@ -26,14 +26,12 @@ fn clock_after(clock: f32, taken: bool, dt: f32) -> f32
     ensures { λ r. ⌜ r ≡ clockAfter clock taken dt ⌝ }
 {
     if taken {
-        0.0
-    } else {
-        if clock <= VISION_ACTIVE_TIMEOUT_S {
-            clock + dt
-        } else {
-            clock
-        }
+        return 0.0;
     }
+    if clock <= VISION_ACTIVE_TIMEOUT_S {
+        return clock + dt;
+    }
+    clock
 }
 
 impl Vision {
