@@ -19,9 +19,9 @@ from unproved import Kit
 TICKS = 400_000
 # file, old text, new text: both keep what the line needs alive.
 NO_TEXT = (
-    "drive_text/src/lib.rt",
-    "    let len = write_line(buf, line);\n",
-    "    let len = one_byte(buf, line);\n",
+    "driven_text/src/lib.rt",
+    "    let len = write_line(&mut buf, line);\n",
+    "    let len = one_byte(&mut buf, line);\n",
     """
 use line_text::Ending;
 fn one_byte(buf: &mut [u8; 128], line: Line) -> usize {
@@ -43,20 +43,10 @@ fn one_byte(buf: &mut [u8; 128], line: Line) -> usize {
 )
 NO_TICK = (
     "drive_blocks/src/lib.rt",
-    """    if refusal == 0 {
-        match pass {
-            Pass::Empty => {
-                return begin(pass, b);
-            }
-            Pass::Driving(c) => {
-                return drive_tick(c, b.sight, b.plan, b.steer, b.finish);
+    """            if refusal == 0 {
+                return drive_on(c, b);
 """,
-    """    if refusal % 10 == 0 {
-        match pass {
-            Pass::Empty => {
-                return begin(pass, b);
-            }
-            Pass::Driving(c) => {
+    """            if refusal % 10 == 0 {
                 return look_only(c, b);
 """,
     """

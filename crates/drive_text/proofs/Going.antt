@@ -1,9 +1,11 @@
 -- What holds at each turn of the loop of `drive_batch`: i blocks are driven, and their text is in place. Assumes nothing.
 use Prim.Native.Nat.{ℕ, _+_, _*_, _-_, _≤_, _<_, min}
 use mathlib.Core.Path.{_≡_, refl, sym, ap, _∙_}
-use mathlib.Core.Bool.{Bool, true, false}
+use mathlib.Core.Bool.{Bool, true, false, not, _&&_, false≢true}
 use mathlib.Core.List.{List, _++_, append-nil}
 use native.Mathlib.Omega.{arith}
+use lib.Dec.{ltb}
+use borrow.Author.Tests.{ltb-true, ltb-false}
 use lib.ListN.{length, take, drop, length-append, length-take, length-drop, take-append-drop, drop-of-length-le}
 use lib.Seq.{take-append-seam, drop-append-seam, drop-append-add, drop-drop}
 use Rattle.text_pieces.specs.Puts.{Within}
@@ -11,7 +13,7 @@ use Rattle.text_pieces.proofs.Placing.{within}
 use Rattle.drive_pass.specs.declared.Pass.{Pass}
 use Rattle.driven_text.specs.declared.Written.{Written}
 use Rattle.drive_text.specs.Written.{written, blockText}
-use Rattle.drive_text.specs.Batch.{firstBlock, Batched, oneBlock, then, batchOf, textOf, answerOf, nextOf}
+use Rattle.drive_text.specs.Batch.{firstBlock, Batched, oneBlock, then, batchOf, textOf, answerOf, nextOf, goesOn}
 use Rattle.drive_text.proofs.Batches.{one-more, stays, stays-over, textOf-append}
 
 -- answer and text are those of the batch of i blocks; the bytes from start on are left
@@ -97,12 +99,35 @@ module _ (p : Pass) (bytes out₀ out : List ℕ) (i start end : ℕ) (w : Writt
       rw e (g .answer, (g .text, (within _ _ fits, refl)))
 
   -- a refusal, or no bytes left
-  pub refused : (n : ℕ) → i ≤ n → w .refused ≡ true → batchOf n p bytes ≡ batchOf i p bytes
+  refused : (n : ℕ) → i ≤ n → w .refused ≡ true → batchOf n p bytes ≡ batchOf i p bytes
   refused n h o =
       let e : n ≡ i + (n - i) = omega arith in
       ap (λ (k : ℕ). batchOf k p bytes) e ∙ stays-over i (n - i) p bytes (over-is true o)
 
-  pub emptied : (n : ℕ) → i ≤ n → length bytes ≤ start → batchOf n p bytes ≡ batchOf i p bytes
+  emptied : (n : ℕ) → i ≤ n → length bytes ≤ start → batchOf n p bytes ≡ batchOf i p bytes
   emptied n h k =
       let e : n ≡ i + (n - i) = omega arith in
       ap (λ (k : ℕ). batchOf k p bytes) e ∙ stays i (n - i) p bytes (sym (g .left) ∙ drop-of-length-le bytes k)
+
+  -- whatever ends the loop, more room changes nothing
+  pub stopped : (n : ℕ) (on : Bool) → i ≤ n → on ≡ goesOn i n (w .refused) start (length bytes) → on ≡ false → batchOf n p bytes ≡ batchOf i p bytes
+  unfolding goesOn
+  stopped n on h e f = go (ltb i n) (w .refused) (ltb start (length bytes)) (ltb-false i n) (λ r. refused n h r) (λ l. emptied n h (ltb-false start (length bytes) l)) (sym e ∙ f)
+    where
+      go : (room over left : Bool) → (room ≡ false → n ≤ i) → (over ≡ true → batchOf n p bytes ≡ batchOf i p bytes) → (left ≡ false → batchOf n p bytes ≡ batchOf i p bytes)
+          → ((room && not over) && left) ≡ false → batchOf n p bytes ≡ batchOf i p bytes
+      go false over left f r m e = let s : n ≡ i = omega (arith, h, f refl) in ap (λ (k : ℕ). batchOf k p bytes) s
+      go true true left f r m e = r refl
+      go true false false f r m e = m refl
+      go true false true f r m e = let z : true ≡ false = e in cc
+
+-- what the loop's test says
+pub going-on : (i room start len : ℕ) (over on : Bool) → on ≡ goesOn i room over start len → on ≡ true → (i < room) × ((over ≡ false) × (start < len))
+unfolding goesOn
+going-on i room start len over on e t = go (ltb i room) over (ltb start len) (ltb-true i room) (ltb-true start len) (sym e ∙ t)
+  where
+    go : (a o l : Bool) → (a ≡ true → i < room) → (l ≡ true → start < len) → ((a && not o) && l) ≡ true → (i < room) × ((o ≡ false) × (start < len))
+    go true false true f g e = (f refl, (refl, g refl))
+    go true false false f g e = absurd (false≢true e)
+    go true true l f g e = absurd (false≢true e)
+    go false o l f g e = absurd (false≢true e)

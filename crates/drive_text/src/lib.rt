@@ -5,7 +5,7 @@ ghost use Prim.Native.Nat.{_+_, _-_, _≤_, min};
 ghost use lib.ListN.{length, take, drop};
 ghost use Rattle.text_pieces.specs.Puts.{Within};
 ghost use Rattle.drive_text.specs.Written.{written, blockText};
-ghost use Rattle.drive_text.specs.Batch.{textOf, batchInto, answerOf, nextOf};
+ghost use Rattle.drive_text.specs.Batch.{textOf, batchInto, answerOf, nextOf, goesOn};
 use drive_blocks::drive;
 use drive_pass::Pass;
 use driven_text::Written;
@@ -18,15 +18,7 @@ pub fn drive_block(pass: Pass, block: &[u8], buf: &mut [u8; 128]) -> Written
     ensures { λ r. ⌜ (r .len ≤ 128) × Within (r .len) (now (buf .exit)) ⌝ }
     ensures { λ _. ⌜ now (block .exit) ≡ now (block .entry) ⌝ }
 {
-    write_driven(drive(pass, block), buf)
-}
-
-// Puts a line behind the at bytes that are there; what stands behind it stays.
-fn append(out: &mut [u8], at: usize, line: &[u8])
-    requires { ⌜ at + length (now line) ≤ length (now out) ⌝ }
-    ensures { λ _. ⌜ now (out .exit) ≡ take at (now (out .entry)) ++ now (line .entry) ++ drop (at + length (now (line .entry))) (now (out .entry)) ⌝ }
-{
-    bytes::copy(line, &mut out[at..]);
+    write_driven(drive(pass, block), 0, buf)
 }
 
 // Drives one block more, its line behind the text that is there.
@@ -36,14 +28,8 @@ fn drive_next(done: Written, block: &[u8], out: &mut [u8]) -> Written
     ensures { λ r. ⌜ now (out .exit) ≡ take (done .len) (now (out .entry)) ++ blockText (done .pass) (now (block .entry)) ++ drop (r .len) (now (out .entry)) ⌝ }
     ensures { λ r. ⌜ r .len ≤ done .len + 128 ⌝ }
 {
-    let at = done.len;
     let pass = done.pass;
-    let mut line = [0; 128];
-    let mut w = drive_block(pass, block, &mut line);
-    let len = w.len;
-    append(out, at, &line[..len]);
-    w.len = done.len + len;
-    w
+    write_driven(drive(pass, block), done.len, out)
 }
 
 // Where the block from start on ends; the last one may be short.
@@ -52,6 +38,13 @@ fn block_end(start: usize, len: usize) -> usize
     ensures { λ r. ⌜ (start ≤ r) × (r ≤ len) × (r ≡ start + min 512 (len - start)) ⌝ }
 {
     if len - start < 512 { len } else { start + 512 }
+}
+
+// Whether one more block is driven: its line has room, none was refused, and bytes are left.
+fn goes_on(i: usize, room: usize, refused: bool, start: usize, len: usize) -> bool
+    ensures { λ r. ⌜ r ≡ goesOn i room refused start len ⌝ }
+{
+    (i < room) & !refused & (start < len)
 }
 
 // Drives blocks of 512 bytes to their end or to the first refusal, as many as `out` has room for at
@@ -70,13 +63,7 @@ pub fn drive_batch(pass: Pass, blocks: &[u8], out: &mut [u8]) -> Written
     };
     let mut i: usize = 0;
     let mut start: usize = 0;
-    while i < room {
-        if w.refused {
-            return w;
-        }
-        if blocks.len() <= start {
-            return w;
-        }
+    while goes_on(i, room, w.refused, start, blocks.len()) {
         let end = block_end(start, blocks.len());
         w = drive_next(w, &blocks[start..end], out);
         start = end;

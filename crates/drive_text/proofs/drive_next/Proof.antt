@@ -1,60 +1,45 @@
--- `drive_text::drive_next` meets its contract: the line that `drive_block` wrote, put behind the text. Assumes nothing.
-use Prim.Native.Nat.{ℕ, _+_}
-use mathlib.Core.Path.{_≡_, refl, sym, ap, _∙_}
+-- `drive_text::drive_next` meets its contract: there is room for a line. Assumes nothing.
+use Prim.Native.Nat.{ℕ, _+_, _≤_}
+use mathlib.Core.Path.{_≡_, refl, _∙_}
 use mathlib.Core.List.{List, _++_}
 use native.Mathlib.Omega.{arith}
 use lib.ListN.{length, take, drop}
-use lib.Seq.{take-at}
+use borrow.Author.Needs.{needs}
+use borrow.Author.Tests.{le-ltb}
+use Rattle.line_text.specs.Text.{lineText}
+use Rattle.drive_pass.specs.declared.Driven.{Driven}
+use Rattle.drive_blocks.specs.Blocks.{driven}
 use Rattle.driven_text.specs.declared.Written.{Written}
+use Rattle.driven_text.specs.Written.{behind, endOf, writtenBehind}
 use Rattle.drive_text.specs.Written.{written, blockText}
 use Rattle.drive_text.specs.Batch.{nextOf}
-use borrow.Author.Needs.{needs}
 use Rattle.drive_text.proofs.drive_next.Statement.{statement}
 use Rattle.drive_text.proofs.drive_next.Tie as tie
 
--- a line's array starts with the line's text
-line-placed : (out after array text rest : List ℕ) (at len : ℕ) → len ≡ length text → array ≡ text ++ rest
-    → after ≡ take at out ++ take len array ++ drop (at + length (take len array)) out → after ≡ take at out ++ text ++ drop (at + len) out
-line-placed out after array text rest at len l a e =
-    let t : take len array ≡ text = rw a (take-at text rest len (sym l)) in
-    e ∙ rw (t, l) refl
+next-is : (done r : Written) (block out after : List ℕ) (d : Driven) → done .len + 128 ≤ length out → d ≡ driven (done .pass) block
+    → r ≡ writtenBehind (length out) (done .len) d → after ≡ behind out (done .len) (lineText (d .line))
+    → (r ≡ nextOf done block) × (after ≡ take (done .len) out ++ blockText (done .pass) block ++ drop (r .len) out)
+unfolding nextOf written blockText writtenBehind endOf behind
+next-is done r block out after d h e a b =
+    let room = le-ltb (length out) (done .len + 128) h in
+    let answer : r ≡ nextOf done block = a ∙ rw (room, e) refl in
+    (answer, b ∙ rw (room, e, answer) refl)
 
-drive-block-requires : tie.Need-drive-block-requires
-drive-block-requires c κs = search needs
+drive-requires : tie.Need-drive-requires
+drive-requires c κs = search needs
 
-array-share-prefix-line : tie.Need-array-share-prefix-line
-array-share-prefix-line c = search needs
-
-slice-aggregate-append : tie.Need-slice-aggregate-append
-slice-aggregate-append c = search needs
-
-append-requires : tie.Need-append-requires
-append-requires c κs = search needs
-
-add-w : tie.Need-add-w
-add-w c = search needs
+write-driven-requires : tie.Need-write-driven-requires
+write-driven-requires c κs = search needs
 
 same-length : tie.Need-same-length
 same-length c = search needs
 
 returns : tie.Need-returns
-unfolding nextOf written
 returns c =
-    let start = c .before .before .before .before .before .before .before .before .before .before in
-    let d = c .before .before .before .before .before .before .drive-block .ensures in
-    let text = blockText (start .args .done .pass) (start .args .block .now) in (
-      ap (λ (w : Written). record { pass = w .pass; len = start .args .done .len + w .len; refused = w .refused }) (d .0),
-      (line-placed (start .args .out .now) _ _ text _ (start .args .done .len) _ (ap (λ (w : Written). w .len) (d .0)) (d .1 .0) (c .before .before .before .append .ensures), omega (arith, d .1 .1 .0 .0)),
-    )
+    let args = c .before .before .before .before .before .before .before .args in
+    let w = c .before .before .write-driven .ensures in
+    let n = next-is (args .done) _ (args .block .now) (args .out .now) _ _ (omega arith) (c .before .before .before .before .drive .ensures .0) (w .0) (w .1 .0) in
+    (n .0, (n .1, w .1 .1))
 
 pub drive-next-spec : {M : Type 1} → statement M
-drive-next-spec =
-    tie.close
-    (tie.spec
-    drive-block-requires
-    array-share-prefix-line
-    slice-aggregate-append
-    append-requires
-    add-w
-    same-length
-    returns)
+drive-next-spec = tie.close (tie.spec drive-requires write-driven-requires same-length returns)
