@@ -35,8 +35,7 @@ fn drive_on(c: BodyController, b: TickBlock) -> Driven
 fn begin(pass: Pass, b: TickBlock) -> Driven
     ensures { λ r. ⌜ r ≡ begun pass b ⌝ }
 {
-    let tick = b.tick;
-    let made = BodyController::new(tick.k as u32);
+    let made = BodyController::new(b.tick.k as u32);
     match made {
         NewAnswer::Made(c) => {
             return drive_on(c, b);

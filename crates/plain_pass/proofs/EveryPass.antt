@@ -9,7 +9,6 @@ use Rattle.body_controller.specs.declared.BodyController.{BodyController}
 use Rattle.call_inputs.specs.declared.FinishInput.{FinishInput}
 use Rattle.body_controller.specs.declared.FinishAnswer.{FinishAnswer}
 use Rattle.body_controller.specs.declared.FinishAnswer.the-variants as Finishes
-use Rattle.body_controller.specs.declared.FinishResult.{FinishResult}
 use Rattle.call_inputs.specs.declared.PlanInput.{PlanInput}
 use Rattle.body_controller.specs.declared.PlanCallAnswer.{PlanCallAnswer}
 use Rattle.body_controller.specs.declared.PlanCallAnswer.the-variants as Plans
@@ -28,6 +27,7 @@ use Rattle.plain_drive.specs.Calls.{Call, sight, plan, steer, finish, Reply}
 use Rattle.plain_drive.specs.PlainDrive as Plain
 use Rattle.plain_drive.specs.EveryList.{sightReply, planReply, steerReply, finishReply, Meets, Entry, Made, callsOf, repliesOf, driveOf}
 use Rattle.plain_drive.proofs.EveryList.{demand3}
+use Rattle.line_text.specs.declared.Ending.{Ending}
 use Rattle.line_text.specs.declared.Line.{Line}
 use Rattle.tick_block.specs.declared.BlockAnswer.{BlockAnswer}
 use Rattle.tick_block.specs.declared.BlockAnswer.the-variants as Block
@@ -37,8 +37,9 @@ use Rattle.drive_pass.specs.declared.Driven.{Driven}
 use Rattle.drive_pass.specs.declared.Pass.{Pass}
 use Rattle.drive_pass.specs.declared.Pass.the-variants.{Empty, Driving}
 use Rattle.drive_pass.specs.Pass.{nextNumber, countsOf, refusedBy}
+use Rattle.tick_calls.specs.declared.Ticked.{Ticked}
 use Rattle.tick_calls.specs.Tick as Tick
-use Rattle.tick_calls.specs.Tick.{endedBy, endingOf, turnedAway, steeredWith, steered, plannedWith, planned, tickedWith, ticked}
+use Rattle.tick_calls.specs.Tick.{endedBy, endingOf, finished, steeredWith, steered, plannedWith, planned, tickedWith, ticked}
 use Rattle.drive_blocks.specs.Blocks.{orderRefusal, carried, tickedOn, begunWith, begun, takenWith, taken, drivenWith, driven}
 use Rattle.plain_pass.specs.PlainPass.{endingNumber, markOf, PlainPass, none, at, PlainDriven, replyAfter, refusalIn, endedAt, atFinish, atSteer, atPlan, plainTick, plainTicks, plainCounts, refusedAt, plainTake, plainRead, plainPass, plainMarks, Passed, marksOf, StandsOn, EveryPass}
 
@@ -76,16 +77,17 @@ stands k calls c b = demand3 k (b .0) c (b .2) .state ∙ ap (λ (cs : List Call
 -- ---- the calls of a tick, the last first
 
 module _ (k number letter : ℕ) where
-  -- the line and the pass of a tick that ended so
-  abbrev shown : FinishResult → Driven
-  shown e = let t = endedBy (e .controller) number letter (endingOf (e .answer)) in carried (t .line) (t .controller)
+  -- the line and the pass of a tick
+  abbrev shown : Ticked → Driven
+  shown t = carried (t .line) (t .controller)
 
-  ended-agrees : (calls : List Call) (e : FinishResult) (n : ℕ) → Behind k calls (e .controller) → endingNumber (endingOf (e .answer)) ≡ n → Agrees (shown e) (endedAt k calls number letter n)
+  ended-agrees : (calls : List Call) (c : BodyController) (ending : Ending) (n : ℕ) → Behind k calls c → endingNumber ending ≡ n → Agrees (shown (endedBy c number letter ending)) (endedAt k calls number letter n)
   unfolding endedBy carried driveOf
-  ended-agrees calls e n b h = record { mark = rw (h, ← stands k calls (e .controller) b); pass = b }
+  ended-agrees calls c ending n b e = record { mark = rw (e, ← stands k calls c b); pass = b }
 
-  finish-agrees : (calls : List Call) (c : BodyController) (f : FinishInput) → Behind k calls c → Agrees (shown (finishOf c f)) (atFinish k calls number letter f)
-  finish-agrees calls c f b = ended-agrees (finish f ∷ calls) (finishOf c f) _ (after k calls c b (finish f) _ _ meets) (ending (finishOf c f .answer) ∙ ap refusalIn (replied k calls c b (finish f) _ _ meets))
+  finish-agrees : (calls : List Call) (c : BodyController) (f : FinishInput) → Behind k calls c → Agrees (shown (finished c number letter f)) (atFinish k calls number letter f)
+  unfolding finished
+  finish-agrees calls c f b = ended-agrees (finish f ∷ calls) (finishOf c f .controller) _ _ (after k calls c b (finish f) _ _ meets) (ending (finishOf c f .answer) ∙ ap refusalIn (replied k calls c b (finish f) _ _ meets))
     where
       meets : Meets c (finish f) (finishReply (finishOf c f .answer)) (finishOf c f .controller)
       meets = (finishOf c f, refl, refl, refl)
@@ -94,27 +96,27 @@ module _ (k number letter : ℕ) where
       ending (Finishes.Accepted x) = refl
       ending (Finishes.Refused r) = refl
 
-  steer-agrees : (calls : List Call) (c : BodyController) (s : SteerInput) (f : FinishInput) → Behind k calls c → Agrees (shown (steered c s f)) (atSteer k calls number letter s f)
-  unfolding steered turnedAway
+  steer-agrees : (calls : List Call) (c : BodyController) (s : SteerInput) (f : FinishInput) → Behind k calls c → Agrees (shown (steered c number letter s f)) (atSteer k calls number letter s f)
+  unfolding steered
   steer-agrees calls c s f b = go (steerOf c s .answer) refl
     where
       meets : Meets c (steer s) (steerReply (steerOf c s .answer)) (steerOf c s .controller)
       meets = (steerOf c s, refl, refl, refl)
 
-      go : (a : SteerAnswer) → steerOf c s .answer ≡ a → Agrees (shown (steeredWith a (steerOf c s .controller) f)) (atSteer k calls number letter s f)
+      go : (a : SteerAnswer) → steerOf c s .answer ≡ a → Agrees (shown (steeredWith a (steerOf c s .controller) number letter f)) (atSteer k calls number letter s f)
       go (Steers.Accepted x) e = rw (sym (replied k calls c b (steer s) _ _ meets) ∙ ap steerReply e) (finish-agrees (steer s ∷ calls) (steerOf c s .controller) f (after k calls c b (steer s) _ _ meets))
-      go (Steers.Refused r) e = rw (sym (replied k calls c b (steer s) _ _ meets) ∙ ap steerReply e) (ended-agrees (steer s ∷ calls) (turnedAway (steerOf c s .controller) r) _ (after k calls c b (steer s) _ _ meets) refl)
+      go (Steers.Refused r) e = rw (sym (replied k calls c b (steer s) _ _ meets) ∙ ap steerReply e) (ended-agrees (steer s ∷ calls) (steerOf c s .controller) _ _ (after k calls c b (steer s) _ _ meets) refl)
 
-  plan-agrees : (calls : List Call) (c : BodyController) (p : PlanInput) (s : SteerInput) (f : FinishInput) → Behind k calls c → Agrees (shown (planned c p s f)) (atPlan k calls number letter p s f)
-  unfolding planned turnedAway
+  plan-agrees : (calls : List Call) (c : BodyController) (p : PlanInput) (s : SteerInput) (f : FinishInput) → Behind k calls c → Agrees (shown (planned c number letter p s f)) (atPlan k calls number letter p s f)
+  unfolding planned
   plan-agrees calls c p s f b = go (planOf c p .answer) refl
     where
       meets : Meets c (plan p) (planReply (planOf c p .answer)) (planOf c p .controller)
       meets = (planOf c p, refl, refl, refl)
 
-      go : (a : PlanCallAnswer) → planOf c p .answer ≡ a → Agrees (shown (plannedWith a (planOf c p .controller) s f)) (atPlan k calls number letter p s f)
+      go : (a : PlanCallAnswer) → planOf c p .answer ≡ a → Agrees (shown (plannedWith a (planOf c p .controller) number letter s f)) (atPlan k calls number letter p s f)
       go (Plans.Accepted x) e = rw (sym (replied k calls c b (plan p) _ _ meets) ∙ ap planReply e) (steer-agrees (plan p ∷ calls) (planOf c p .controller) s f (after k calls c b (plan p) _ _ meets))
-      go (Plans.Refused r) e = rw (sym (replied k calls c b (plan p) _ _ meets) ∙ ap planReply e) (ended-agrees (plan p ∷ calls) (turnedAway (planOf c p .controller) r) _ (after k calls c b (plan p) _ _ meets) refl)
+      go (Plans.Refused r) e = rw (sym (replied k calls c b (plan p) _ _ meets) ∙ ap planReply e) (ended-agrees (plan p ∷ calls) (planOf c p .controller) _ _ (after k calls c b (plan p) _ _ meets) refl)
 
 tick-agrees : (k : ℕ) (calls : List Call) (c : BodyController) (b : TickBlock) → Behind k calls c → Agrees (tickedOn c b) (plainTick k calls b)
 unfolding tickedOn ticked plainTick Tick.refusedAt carried

@@ -8,7 +8,6 @@ use Rattle.body_controller.specs.declared.BodyController.{BodyController}
 use Rattle.call_inputs.specs.declared.FinishInput.{FinishInput}
 use Rattle.body_controller.specs.declared.FinishAnswer.{FinishAnswer}
 use Rattle.body_controller.specs.declared.FinishAnswer.the-variants as Finishes
-use Rattle.body_controller.specs.declared.FinishResult.{FinishResult}
 use Rattle.call_inputs.specs.declared.PlanInput.{PlanInput}
 use Rattle.body_controller.specs.declared.PlanCallAnswer.{PlanCallAnswer}
 use Rattle.body_controller.specs.declared.PlanCallAnswer.the-variants as Plans
@@ -18,7 +17,6 @@ use Rattle.body_controller.specs.declared.SightAnswer.the-variants as Sights
 use Rattle.call_inputs.specs.declared.SteerInput.{SteerInput}
 use Rattle.body_controller.specs.declared.SteerAnswer.{SteerAnswer}
 use Rattle.body_controller.specs.declared.SteerAnswer.the-variants as Steers
-use Rattle.tick_parts.specs.declared.Refusal.{Refusal}
 use Rattle.tick_parts.specs.Refusal.{refusalNumber}
 use Rattle.body_controller.specs.Sight.{sightOf}
 use Rattle.body_controller.specs.Plan.{planOf}
@@ -41,24 +39,23 @@ endedBy c number letter ending = record {
   controller = c;
 }
 
--- a refused call's answer in the place of finish's
-unfoldable pub turnedAway : BodyController → Refusal → FinishResult
-turnedAway c r = record { answer = Finishes.Refused r; controller = c }
+unfoldable pub finished : BodyController → ℕ → ℕ → FinishInput → Ticked
+finished c number letter i = endedBy (finishOf c i .controller) number letter (endingOf (finishOf c i .answer))
 
--- steer and finish; the tick ends with the first that is turned away
-abbrev pub steeredWith : SteerAnswer → BodyController → FinishInput → FinishResult
-steeredWith (Steers.Accepted t) c f = finishOf c f
-steeredWith (Steers.Refused r) c f = turnedAway c r
+-- the tick ends with the first call that is turned away
+abbrev pub steeredWith : SteerAnswer → BodyController → ℕ → ℕ → FinishInput → Ticked
+steeredWith (Steers.Accepted t) c number letter f = finished c number letter f
+steeredWith (Steers.Refused r) c number letter f = endedBy c number letter (Failed (refusalNumber r))
 
-unfoldable pub steered : BodyController → SteerInput → FinishInput → FinishResult
-steered c i f = steeredWith (steerOf c i .answer) (steerOf c i .controller) f
+unfoldable pub steered : BodyController → ℕ → ℕ → SteerInput → FinishInput → Ticked
+steered c number letter i f = steeredWith (steerOf c i .answer) (steerOf c i .controller) number letter f
 
-abbrev pub plannedWith : PlanCallAnswer → BodyController → SteerInput → FinishInput → FinishResult
-plannedWith (Plans.Accepted a) c s f = steered c s f
-plannedWith (Plans.Refused r) c s f = turnedAway c r
+abbrev pub plannedWith : PlanCallAnswer → BodyController → ℕ → ℕ → SteerInput → FinishInput → Ticked
+plannedWith (Plans.Accepted a) c number letter s f = steered c number letter s f
+plannedWith (Plans.Refused r) c number letter s f = endedBy c number letter (Failed (refusalNumber r))
 
-unfoldable pub planned : BodyController → PlanInput → SteerInput → FinishInput → FinishResult
-planned c i s f = plannedWith (planOf c i .answer) (planOf c i .controller) s f
+unfoldable pub planned : BodyController → ℕ → ℕ → PlanInput → SteerInput → FinishInput → Ticked
+planned c number letter i s f = plannedWith (planOf c i .answer) (planOf c i .controller) number letter s f
 
 -- 'A refused block .. prints the number its tick would have had, `!`, the refusal'; the controller stays
 unfoldable pub refusedAt : BodyController → ℕ → Ticked
@@ -66,7 +63,7 @@ refusedAt c n = record { line = Lines.Refused (record { number = c .ticks; refus
 
 -- c is the controller before sight, and d the one after it
 abbrev pub tickedWith : SightAnswer → BodyController → BodyController → PlanInput → SteerInput → FinishInput → Ticked
-tickedWith (Sights.Accepted a) c d p s f = endedBy (planned d p s f .controller) (c .ticks) (letterOf (a .action)) (endingOf (planned d p s f .answer))
+tickedWith (Sights.Accepted a) c d p s f = planned d (c .ticks) (letterOf (a .action)) p s f
 tickedWith (Sights.Refused r) c d p s f = refusedAt c (refusalNumber r)
 
 unfoldable pub ticked : BodyController → SightInput → PlanInput → SteerInput → FinishInput → Ticked

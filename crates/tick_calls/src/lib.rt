@@ -1,9 +1,8 @@
 // A tick, a term of document 01: the calls sight, plan, steer and finish, and the tick's line.
 ghost use mathlib.Core.Path.{_≡_};
-ghost use Rattle.tick_calls.specs.Tick.{endingOf, endedBy, turnedAway, refusedAt, steered, planned, ticked};
+ghost use Rattle.tick_calls.specs.Tick.{endingOf, endedBy, finished, steered, planned, refusedAt, ticked};
 use body_controller::BodyController;
 use body_controller::FinishAnswer;
-use body_controller::FinishResult;
 use body_controller::PlanCallAnswer;
 use body_controller::SightAnswer;
 use body_controller::SteerAnswer;
@@ -15,7 +14,6 @@ use line_text::Ending;
 use line_text::Line;
 use line_text::RefusedLine;
 use line_text::TickLine;
-use tick_parts::Refusal;
 
 // A block's line, and the controller as the block leaves it.
 pub struct Ticked {
@@ -56,49 +54,64 @@ fn end_tick(c: BodyController, number: u32, letter: u8, ending: Ending) -> Ticke
     }
 }
 
-// A refused call's answer in the place of finish's: it ends the tick.
-fn turn_away(c: BodyController, refusal: Refusal) -> FinishResult
-    ensures { λ r. ⌜ r ≡ turnedAway c refusal ⌝ }
+fn finish_tick(c: BodyController, number: u32, letter: u8, finish: FinishInput) -> Ticked
+    ensures { λ r. ⌜ r ≡ finished c number letter finish ⌝ }
 {
-    FinishResult {
-        answer: FinishAnswer::Refused(refusal),
-        controller: c,
-    }
+    let result = c.finish(finish);
+    let answer = result.answer;
+    let ending = ending_of(answer);
+    end_tick(result.controller, number, letter, ending)
 }
 
-// Steer and finish. A refused steer ends the tick.
-fn steer_tick(c: BodyController, steer: SteerInput, finish: FinishInput) -> FinishResult
-    ensures { λ r. ⌜ r ≡ steered c steer finish ⌝ }
+fn steer_tick(
+    c: BodyController,
+    number: u32,
+    letter: u8,
+    steer: SteerInput,
+    finish: FinishInput,
+) -> Ticked
+    ensures { λ r. ⌜ r ≡ steered c number letter steer finish ⌝ }
 {
     let result = c.steer(steer);
     let answer = result.answer;
     match answer {
         SteerAnswer::Accepted(_) => {
-            return result.controller.finish(finish);
+            return finish_tick(result.controller, number, letter, finish);
         }
         SteerAnswer::Refused(r) => {
-            return turn_away(result.controller, r);
+            return end_tick(
+                result.controller,
+                number,
+                letter,
+                Ending::Failed(r.number()),
+            );
         }
     }
 }
 
-// Plan, and the calls behind it. A refused plan ends the tick.
 fn plan_tick(
     c: BodyController,
+    number: u32,
+    letter: u8,
     plan: PlanInput,
     steer: SteerInput,
     finish: FinishInput,
-) -> FinishResult
-    ensures { λ r. ⌜ r ≡ planned c plan steer finish ⌝ }
+) -> Ticked
+    ensures { λ r. ⌜ r ≡ planned c number letter plan steer finish ⌝ }
 {
     let result = c.plan(plan);
     let answer = result.answer;
     match answer {
         PlanCallAnswer::Accepted(_) => {
-            return steer_tick(result.controller, steer, finish);
+            return steer_tick(result.controller, number, letter, steer, finish);
         }
         PlanCallAnswer::Refused(r) => {
-            return turn_away(result.controller, r);
+            return end_tick(
+                result.controller,
+                number,
+                letter,
+                Ending::Failed(r.number()),
+            );
         }
     }
 }
@@ -133,9 +146,8 @@ pub fn drive_tick(
     match answer {
         SightAnswer::Accepted(s) => {
             let action = s.action;
-            let end = plan_tick(result.controller, plan, steer, finish);
-            let last = end.answer;
-            return end_tick(end.controller, c.ticks(), action.letter(), ending_of(last));
+            let letter = action.letter();
+            return plan_tick(result.controller, c.ticks(), letter, plan, steer, finish);
         }
         SightAnswer::Refused(r) => {
             return refuse_tick(c, r.number());

@@ -10,24 +10,18 @@ sight-requires c κs = search needs
 enum-known-answer : tie.Need-enum-known-answer
 enum-known-answer c = search needs
 
-plan-tick-requires : tie.Need-plan-tick-requires
-plan-tick-requires c κs = search needs
+letter-requires : tie.Need-letter-requires
+letter-requires c κs = search needs
 
 ticks-requires : tie.Need-ticks-requires
 ticks-requires c κs = search needs
 
-letter-requires : tie.Need-letter-requires
-letter-requires c κs = search needs
-
-ending-of-requires : tie.Need-ending-of-requires
-ending-of-requires c κs = search needs
-
-end-tick-requires : tie.Need-end-tick-requires
-end-tick-requires c κs = search needs
+plan-tick-requires : tie.Need-plan-tick-requires
+plan-tick-requires c κs = search needs
 
 returns : tie.Need-returns
 unfolding ticked
-returns c = rw (c .end-tick .ensures, c .before .ending-of .ensures, c .before .before .letter .ensures, c .before .before .before .ticks .ensures, c .before .before .before .before .plan-tick .ensures, ← c .before .before .before .before .before .before .before .before .sight .ensures .0, c .before .before .before .before .before .before .answer .given .1)
+returns c = rw (c .plan-tick .ensures, c .before .before .letter .ensures, c .before .ticks .ensures, ← c .before .before .before .before .before .before .sight .ensures .0, c .before .before .before .before .answer .given .1)
 
 enum-known-answer-2 : tie.Need-enum-known-answer-2
 enum-known-answer-2 c = search needs
@@ -48,11 +42,9 @@ drive-tick-spec =
     (tie.spec
     sight-requires
     enum-known-answer
-    plan-tick-requires
-    ticks-requires
     letter-requires
-    ending-of-requires
-    end-tick-requires
+    ticks-requires
+    plan-tick-requires
     returns
     enum-known-answer-2
     number-requires

@@ -20,12 +20,15 @@ returns c = rw (c .steer-tick .ensures, ← c .before .before .before .plan .ens
 enum-known-answer : tie.Need-enum-known-answer
 enum-known-answer c = search needs
 
-turn-away-requires : tie.Need-turn-away-requires
-turn-away-requires c κs = search needs
+number-requires : tie.Need-number-requires
+number-requires c κs = search needs
+
+end-tick-requires : tie.Need-end-tick-requires
+end-tick-requires c κs = search needs
 
 returns-2 : tie.Need-returns-2
 unfolding planned
-returns-2 c = rw (c .turn-away .ensures, ← c .before .before .before .before .plan .ensures .0, c .before .before .answer .given .1)
+returns-2 c = rw (c .end-tick .ensures, c .before .number .ensures, ← c .before .before .before .before .before .plan .ensures .0, c .before .before .before .answer .given .1)
 
 pub plan-tick-spec : {M : Type 1} → statement M
 plan-tick-spec =
@@ -36,5 +39,6 @@ plan-tick-spec =
     steer-tick-requires
     returns
     enum-known-answer
-    turn-away-requires
+    number-requires
+    end-tick-requires
     returns-2)
