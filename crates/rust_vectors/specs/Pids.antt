@@ -1,4 +1,4 @@
--- The lists of the PID controllers: what a header describes, and the step of a call. Assumes nothing.
+-- The lists of the PID controllers: what a header describes, and the answer to a call. Assumes nothing.
 use Prim.Native.Nat.{ℕ, _+_, _*_}
 use mathlib.Core.Bool.{cond}
 use mathlib.Core.List.{List}
@@ -20,11 +20,7 @@ use Rattle.pid_three.specs.Three.{calculated3, calculatedWithDerivative3, reset
 use Rattle.pid_four.specs.Four.{calculated4, calculatedWithDerivative4, reset4}
 use Rattle.block_words.specs.Word.{wordAt}
 use Rattle.block_floats.specs.Floats.{floatAt, vector3At, vector4At}
-use Rattle.rust_vectors.specs.declared.subject.Subject.{Subject}
-use Rattle.rust_vectors.specs.declared.subject.Subject.the-variants.{Pid1, Pid3, Pid4}
-use Rattle.rust_vectors.specs.declared.subject.Step.{Step}
-use Rattle.rust_vectors.specs.Words.{words1, words3, words4}
-use Rattle.rust_vectors.specs.Step.{byKind3}
+use Rattle.rust_vectors.specs.Kinds.{byKind3}
 
 -- ---- the header: the number of calls; the gains, axis by axis; whether there is a threshold, and one for each axis; whether there are limits, the low ones and the high ones
 
@@ -47,14 +43,8 @@ limitsAt s n i =
 unfoldable pub axisAt : List ℕ → ℕ → ℕ → PidController
 axisAt s n i = newController (gainsAt s i) (threshAt s n i) (limitsAt s n i)
 
-unfoldable pub fresh1 : List ℕ → Subject
-fresh1 s = Pid1 (axisAt s 1 0)
-
-unfoldable pub fresh3 : List ℕ → Subject
-fresh3 s = Pid3 (record { x = axisAt s 3 0; y = axisAt s 3 1; z = axisAt s 3 2 })
-
-unfoldable pub fresh4 : List ℕ → Subject
-fresh4 s = Pid4 (record { x = axisAt s 4 0; y = axisAt s 4 1; z = axisAt s 4 2; w = axisAt s 4 3 })
+unfoldable pub fourAxes : List ℕ → PidController4
+fourAxes s = record { x = axisAt s 4 0; y = axisAt s 4 1; z = axisAt s 4 2; w = axisAt s 4 3 }
 
 -- ---- a call: its kind (0 `calculate`, 1 `calculate_with_derivative`, 2 `reset`), setpoint, process variable, derivative and dt. A reset's output is zero.
 
@@ -78,20 +68,3 @@ answer4 c s =
     (calculated4 c (vector4At s 1) (vector4At s 5) (floatAt s 13))
     (calculatedWithDerivative4 c (vector4At s 1) (vector4At s 5) (vector4At s 9) (floatAt s 13))
     (record { output = zeros4; controller = reset4 c })
-
--- ---- the controller after a call, and what is compared
-
-unfoldable pub step1 : PidController → List ℕ → Step
-step1 c s =
-    let a = answer1 c s in
-    record { subject = Pid1 (a .controller); words = words1 (a .output) (a .controller) }
-
-unfoldable pub step3 : PidController3 → List ℕ → Step
-step3 c s =
-    let a = answer3 c s in
-    record { subject = Pid3 (a .controller); words = words3 (a .output) (a .controller) }
-
-unfoldable pub step4 : PidController4 → List ℕ → Step
-step4 c s =
-    let a = answer4 c s in
-    record { subject = Pid4 (a .controller); words = words4 (a .output) (a .controller) }
