@@ -7,9 +7,10 @@
   python3 tools/case_blocks.py --block > crates/bit_cases/stdin
   python3 tools/case_blocks.py --answers > crates/bit_cases/stdout
 
-crates/cases/stdout is what `ticks` prints for each pass, then the two lines of the tick limit. The passes: document 01's own block, each refusal alone, every two at once in the order of trial,
-every spare word and flag, and the mistakes that document 01 says lie close. The answers are worked out
-here from document 01's table of refusals, apart from the port and from the oracle.
+crates/cases/stdout is what `ticks` prints for each pass, then the two lines of the tick limit. The passes:
+document 01's own block, each refusal alone, every two at once in the order of trial, every spare word and
+flag, and the mistakes that document 01 says lie close. The answers are worked out here from document 01's
+table of refusals, apart from the port and from the oracle.
 """
 import os, struct, sys
 

@@ -4,4 +4,5 @@ pub mod Kinds
 pub mod Pids
 pub mod Brake
 pub mod Lag
+pub mod Lists
 pub mod Compare

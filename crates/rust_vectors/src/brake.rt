@@ -1,6 +1,6 @@
 // The list of the active brake.
 ghost use mathlib.Core.Path.{_≡_};
-ghost use Rattle.rust_vectors.specs.Brake.{answer};
+ghost use Rattle.rust_vectors.specs.Brake.{answer, step};
 use crate::memory::UNANSWERED;
 use crate::memory::put_four;
 use crate::memory::with_memory4;
@@ -26,11 +26,13 @@ fn answer(b: ActiveBrakeController, call: &[u8]) -> BrakeAnswer
 }
 
 // A header has k and the number of calls.
-pub(crate) fn step(header: &[u8], call: &[u8], words: &mut [u32; 12]) {
+pub(crate) fn step(header: &[u8], call: &[u8], words: &mut [u32; 12])
+    ensures { λ _. ⌜ now (words .exit) ≡ step (now (header .entry)) (now (call .entry)) (now (words .entry)) ⌝ }
+{
     match ActiveBrakeController::new(word_at(header, 0)) {
-        BrakeMade::Made(new) => {
-            let mut b = new;
-            b.pid = with_memory4(new.pid, words);
+        BrakeMade::Made(made) => {
+            let mut b = made;
+            b.pid = with_memory4(made.pid, words);
             let a = answer(b, call);
             put_four(words, a.currents, a.controller.pid);
         }

@@ -1,6 +1,6 @@
 // The list of the encoder lag.
 ghost use mathlib.Core.Path.{_≡_};
-ghost use Rattle.rust_vectors.specs.Lag.{isWanted, answer};
+ghost use Rattle.rust_vectors.specs.Lag.{isWanted, answer, stepMade, step};
 use crate::memory::UNANSWERED;
 use block_floats::vec2_at;
 use block_words::word_at;
@@ -49,7 +49,9 @@ fn answer(l: FirstOrderLag, call: &[u8]) -> LagAnswer
     }
 }
 
-fn step_made(mut l: FirstOrderLag, call: &[u8], words: &mut [u32; 12]) {
+fn step_made(mut l: FirstOrderLag, call: &[u8], words: &mut [u32; 12])
+    ensures { λ _. ⌜ now (words .exit) ≡ stepMade l (now (call .entry)) (now (words .entry)) ⌝ }
+{
     let state = Vector2f {
         x: from_bits(words[2]),
         y: from_bits(words[3]),
@@ -63,7 +65,9 @@ fn step_made(mut l: FirstOrderLag, call: &[u8], words: &mut [u32; 12]) {
 }
 
 // A lag of other numbers than the header's is none.
-pub(crate) fn step(header: &[u8], call: &[u8], words: &mut [u32; 12]) {
+pub(crate) fn step(header: &[u8], call: &[u8], words: &mut [u32; 12])
+    ensures { λ _. ⌜ now (words .exit) ≡ step (now (header .entry)) (now (call .entry)) (now (words .entry)) ⌝ }
+{
     match FirstOrderLag::new(word_at(header, 0)) {
         FirstOrderLagAnswer::Made(l) => {
             if is_wanted(l, header) {

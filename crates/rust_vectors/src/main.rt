@@ -9,6 +9,8 @@ mod brake; // brake.rt: the list of the active brake
 mod lag; // lag.rt: the list of the encoder lag
 mod compare; // compare.rt: the words of an answer against those wanted
 
+ghost use mathlib.Core.Path.{_≡_};
+ghost use Rattle.rust_vectors.specs.Lists.{stepOf};
 use block_words::word_at;
 use compare::agrees;
 use compare::show;
@@ -44,7 +46,9 @@ fn judge(tally: Tally, layout: Layout, words: &[u32; 12], call: &[u8], whole: bo
 }
 
 // One call of a list.
-fn step(list: ListOf, header: &[u8], call: &[u8], words: &mut [u32; 12]) {
+fn step(list: ListOf, header: &[u8], call: &[u8], words: &mut [u32; 12])
+    ensures { λ _. ⌜ now (words .exit) ≡ stepOf list (now (header .entry)) (now (call .entry)) (now (words .entry)) ⌝ }
+{
     match list {
         ListOf::Pid1 => pids::step1(header, call, words),
         ListOf::Pid3 => pids::step3(header, call, words),

@@ -1,7 +1,7 @@
 // The words that an answer is compared by, from which the memory of the next call is taken.
 ghost use mathlib.Core.Path.{_≡_};
 ghost use Prim.Native.Nat.{_+_, _<_};
-ghost use Rattle.rust_vectors.specs.Memory.{withMemory, axisPut};
+ghost use Rattle.rust_vectors.specs.Memory.{withMemory, withMemory4, axisPut, fourPut};
 use float_bits::from_bits;
 use float_bits::to_bits;
 use linear::Vector4f;
@@ -32,7 +32,9 @@ pub(crate) fn put_axis(words: &mut [u32; 12], n: usize, i: usize, output: f32, c
 }
 
 // Four axes.
-pub(crate) fn with_memory4(c: PidController4, words: &[u32; 12]) -> PidController4 {
+pub(crate) fn with_memory4(c: PidController4, words: &[u32; 12]) -> PidController4
+    ensures { λ r. ⌜ r ≡ withMemory4 c (now (words .entry)) ⌝ }
+{
     PidController4 {
         x: with_memory(c.x, words[4], words[8]),
         y: with_memory(c.y, words[5], words[9]),
@@ -41,7 +43,9 @@ pub(crate) fn with_memory4(c: PidController4, words: &[u32; 12]) -> PidControlle
     }
 }
 
-pub(crate) fn put_four(words: &mut [u32; 12], output: Vector4f, c: PidController4) {
+pub(crate) fn put_four(words: &mut [u32; 12], output: Vector4f, c: PidController4)
+    ensures { λ _. ⌜ now (words .exit) ≡ fourPut (now (words .entry)) output c ⌝ }
+{
     put_axis(words, 4, 0, output.x, c.x);
     put_axis(words, 4, 1, output.y, c.y);
     put_axis(words, 4, 2, output.z, c.z);

@@ -1,6 +1,6 @@
 // The lists of the PID controllers of one, three and four axes.
 ghost use mathlib.Core.Path.{_≡_};
-ghost use Rattle.rust_vectors.specs.Pids.{gainsAt, threshAt, limitsAt, axisAt, fourAxes, answer1, answer3, answer4};
+ghost use Rattle.rust_vectors.specs.Pids.{gainsAt, threshAt, limitsAt, axisAt, threeAxes, fourAxes, answer1, answer3, answer4, step1, step3, step4};
 use crate::memory::put_axis;
 use crate::memory::put_four;
 use crate::memory::with_memory;
@@ -70,7 +70,9 @@ fn axis_at(header: &[u8], n: u8, i: u8) -> PidController
     PidController::new(gain, thresh, limits_at(header, n, i))
 }
 
-fn three_axes(header: &[u8], words: &[u32; 12]) -> PidController3 {
+fn three_axes(header: &[u8], words: &[u32; 12]) -> PidController3
+    ensures { λ r. ⌜ r ≡ threeAxes (now (header .entry)) (now (words .entry)) ⌝ }
+{
     PidController3 {
         x: with_memory(axis_at(header, 3, 0), words[3], words[6]),
         y: with_memory(axis_at(header, 3, 1), words[4], words[7]),
@@ -139,19 +141,25 @@ fn answer4(c: PidController4, call: &[u8]) -> PidAnswer4
     }
 }
 
-pub(crate) fn step1(header: &[u8], call: &[u8], words: &mut [u32; 12]) {
+pub(crate) fn step1(header: &[u8], call: &[u8], words: &mut [u32; 12])
+    ensures { λ _. ⌜ now (words .exit) ≡ step1 (now (header .entry)) (now (call .entry)) (now (words .entry)) ⌝ }
+{
     let a = answer1(with_memory(axis_at(header, 1, 0), words[1], words[2]), call);
     put_axis(words, 1, 0, a.output, a.controller);
 }
 
-pub(crate) fn step3(header: &[u8], call: &[u8], words: &mut [u32; 12]) {
+pub(crate) fn step3(header: &[u8], call: &[u8], words: &mut [u32; 12])
+    ensures { λ _. ⌜ now (words .exit) ≡ step3 (now (header .entry)) (now (call .entry)) (now (words .entry)) ⌝ }
+{
     let a = answer3(three_axes(header, words), call);
     put_axis(words, 3, 0, a.output.x, a.controller.x);
     put_axis(words, 3, 1, a.output.y, a.controller.y);
     put_axis(words, 3, 2, a.output.z, a.controller.z);
 }
 
-pub(crate) fn step4(header: &[u8], call: &[u8], words: &mut [u32; 12]) {
+pub(crate) fn step4(header: &[u8], call: &[u8], words: &mut [u32; 12])
+    ensures { λ _. ⌜ now (words .exit) ≡ step4 (now (header .entry)) (now (call .entry)) (now (words .entry)) ⌝ }
+{
     let a = answer4(with_memory4(four_axes(header), words), call);
     put_four(words, a.output, a.controller);
 }
