@@ -30,7 +30,10 @@ element-write-words c = search needs
 
 returns : tie.Need-returns
 unfolding step
-returns c = rw (c .put-four .ensures, c .before .before .answer .ensures, c .before .before .before .with-memory4 .ensures, ← c .before .before .before .before .before .before .before .before .before .word-at .ensures, ← c .before .before .before .before .before .before .before .before .new .ensures .0, c .before .before .before .before .before .before .made .given .1)
+returns c =
+    let answered = c .before .before in
+    let made = answered .before .before .before .before in
+    rw (c .put-four .ensures, answered .answer .ensures, answered .before .with-memory4 .ensures, ← made .before .before .before .word-at .ensures, ← made .before .before .new .ensures .0, made .made .given .1)
 
 returns-2 : tie.Need-returns-2
 unfolding step

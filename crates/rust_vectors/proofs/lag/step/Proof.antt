@@ -30,7 +30,10 @@ element-write-words-2 c = search needs
 
 returns : tie.Need-returns
 unfolding step
-returns c = rw (c .step-made .ensures, ← c .before .before .before .before .before .before .before .before .word-at .ensures, ← c .before .before .before .before .before .before .before .new .ensures .0, c .before .before .before .before .before .l .given .1, ← c .before .before .before .is-wanted .ensures, c .before .before .if1 .taken)
+returns c =
+    let tested = c .before .before in
+    let made = tested .before .before .before in
+    rw (c .step-made .ensures, ← made .before .before .before .word-at .ensures, ← made .before .before .new .ensures .0, made .l .given .1, ← tested .before .is-wanted .ensures, tested .if1 .taken)
 
 returns-2 : tie.Need-returns-2
 unfolding step

@@ -45,7 +45,10 @@ element-write-words-4 c = search needs
 
 returns : tie.Need-returns
 unfolding stepMade
-returns c = simp (c .to-bits4 .ensures, c .before .to-bits3 .ensures, c .before .before .to-bits2 .ensures, c .before .before .before .to-bits .ensures, c .before .before .before .before .answer .ensures, c .before .before .before .before .before .from-bits2 .ensures, c .before .before .before .before .before .before .before .from-bits .ensures)
+returns c =
+    let put = c .before .before .before in
+    let asked = put .before .before in
+    simp (c .to-bits4 .ensures, c .before .to-bits3 .ensures, c .before .before .to-bits2 .ensures, put .to-bits .ensures, put .before .answer .ensures, asked .from-bits2 .ensures, asked .before .before .from-bits .ensures)
 
 pub step-made-spec : {M : Type 1} → statement M
 step-made-spec =

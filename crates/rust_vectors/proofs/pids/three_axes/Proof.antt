@@ -42,7 +42,10 @@ with-memory-requires-3 c κs = search needs
 
 returns : tie.Need-returns
 unfolding threeAxes
-returns c = simp (c .with-memory3 .ensures, c .before .before .before .axis-at3 .ensures, c .before .before .before .before .with-memory2 .ensures, c .before .before .before .before .before .before .before .axis-at2 .ensures, c .before .before .before .before .before .before .before .before .with-memory .ensures, c .before .before .before .before .before .before .before .before .before .before .before .axis-at .ensures)
+returns c =
+    let y = c .before .before .before .before in
+    let x = y .before .before .before .before in
+    simp (c .with-memory3 .ensures, c .before .before .before .axis-at3 .ensures, y .with-memory2 .ensures, y .before .before .before .axis-at2 .ensures, x .with-memory .ensures, x .before .before .before .axis-at .ensures)
 
 pub three-axes-spec : {M : Type 1} → statement M
 three-axes-spec =
