@@ -1,15 +1,16 @@
 #!/usr/bin/env python3
-"""Writes what program `cases` reads: a block, of which it turns each bit, and then passes, one behind the
-other, each ended by a refused block.
+"""Writes what program `cases` reads: passes, one behind the other, each ended by a refused block; and what
+`bit_cases` reads: a block, of which it turns each bit.
 
   python3 tools/case_blocks.py > crates/cases/stdin
-  python3 tools/case_blocks.py --answers       what `cases` must print first, of the block's bits and lengths
   python3 tools/case_blocks.py --split DIR     each pass in a file of its own, for the oracle's `ticks`
+  python3 tools/case_blocks.py --block > crates/bit_cases/stdin
+  python3 tools/case_blocks.py --answers > crates/bit_cases/stdout
 
-crates/cases/stdout is the answers, then what `ticks` prints for each pass, then the two lines of the tick
-limit. The passes: document 01's own block, each refusal alone, every two at once in the order of trial,
-every spare word and flag, and the mistakes that document 01 says lie close. The answers are worked out
-here from document 01's table of refusals, apart from the port and from the oracle.
+crates/cases/stdout is what `ticks` prints for each pass, then the two lines of the tick limit. The passes:
+document 01's own block, each refusal alone, every two at once in the order of trial, every spare word and
+flag, and the mistakes that document 01 says lie close. The answers are worked out here from document 01's
+table of refusals, apart from the port and from the oracle.
 """
 import os, struct, sys
 
@@ -153,12 +154,14 @@ def main():
     passes.append(block(0) + block(1)[:300])  # a short last one
     if sys.argv[1:] == ['--answers']:
         answers()
+    elif sys.argv[1:] == ['--block']:
+        sys.stdout.buffer.write(whole_block())
     elif len(sys.argv) > 2:
         for i, p in enumerate(passes):
             with open(os.path.join(sys.argv[2], '%04d' % i), 'wb') as f:
                 f.write(p)
     else:
-        sys.stdout.buffer.write(whole_block() + b''.join(passes))
+        sys.stdout.buffer.write(b''.join(passes))
 
 
 main()

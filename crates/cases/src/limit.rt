@@ -1,56 +1,40 @@
 // The tick limit: quiet blocks up to the first that is refused with 3.
-use crate::print_last;
+ghost use mathlib.Core.Path.{_≡_};
+ghost use lib.ListN.{length};
+use crate::drive_next;
 use drive_pass::Pass;
-use drive_text::drive_block;
-use driven_text::Written;
-use libc::STDOUT_FILENO;
 
 // One block more than a pass can drive.
 const BLOCKS: u32 = 16_777_217;
 
-// Puts a byte into a block, where the block has its place.
-pub(crate) fn put_byte(block: &mut [u8], at: usize, byte: u8) {
-    if at < block.len() {
-        block[at] = byte;
-    }
+// Makes the quiet block of this number: word 1, and the check, word 127.
+fn put_number(block: &mut [u8; 512], number: u32)
+    ensures { λ _. ⌜ length (now (block .exit)) ≡ length (now (block .entry)) ⌝ }
+{
+    let check = std::num::wrapping_add_u32(number, 6);
+    block[4] = (number % 256) as u8;
+    block[5] = (number / 0x100 % 256) as u8;
+    block[6] = (number / 0x1_0000 % 256) as u8;
+    block[7] = (number / 0x100_0000 % 256) as u8;
+    block[508] = (check % 256) as u8;
+    block[509] = (check / 0x100 % 256) as u8;
+    block[510] = (check / 0x1_0000 % 256) as u8;
+    block[511] = (check / 0x100_0000 % 256) as u8;
 }
 
-// Puts word i of a block, lowest byte first.
-pub(crate) fn put_word(block: &mut [u8], i: u8, word: u32) {
-    let at = i as usize * 4;
-    put_byte(block, at, (word % 256) as u8);
-    put_byte(block, at + 1, (word / 0x100 % 256) as u8);
-    put_byte(block, at + 2, (word / 0x1_0000 % 256) as u8);
-    put_byte(block, at + 3, (word / 0x100_0000 % 256) as u8);
-}
-
-// Drives the quiet block of this number, and prints its line where it is refused.
-fn drive_quiet(pass: Pass, block: &mut [u8], number: u32) -> Written {
-    put_word(block, 1, number);
-    put_word(block, 127, std::num::wrapping_add_u32(number, 6));
-    let mut line = [0; 128];
-    let w = drive_block(pass, block, &mut line);
-    if w.refused {
-        let len = w.len;
-        io::write_all(STDOUT_FILENO, &line[..len]);
-    }
-    w
-}
-
+// The blocks have version 1 and k = 4. Only a refused one is printed.
 pub(crate) fn drive_to_limit() {
     let mut block = [0; 512];
-    put_word(&mut block, 0, 1);
-    put_word(&mut block, 105, 4);
+    block[0] = 1;
+    block[420] = 4;
     let mut pass = Pass::Empty;
     let mut number: u32 = 0;
     while number < BLOCKS {
-        let w = drive_quiet(pass, &mut block, number);
-        pass = w.pass;
-        if w.refused {
-            number = BLOCKS;
-        } else {
-            number = number + 1;
+        put_number(&mut block, number);
+        pass = drive_next(pass, &block, false);
+        number = number + 1;
+        if pass.next_number() != number {
+            return;
         }
     }
-    print_last(pass);
 }

@@ -1,10 +1,8 @@
-// Program `cases`: document 01's cases that are not proved. Standard input has a block, of which each
-// bit is turned, and then passes one behind the other, each ended by a refused block; the lines of
-// each are printed, and its last line. Then the tick limit, in full.
-mod bits; // bits.rt: each bit of a block turned, and each length
+// Program `cases`: document 01's cases that are not proved. Standard input has passes one behind the
+// other, each ended by a refused block; the lines of each are printed, and its last line. Then the
+// tick limit, in full.
 mod limit; // limit.rt: a pass of 16,777,217 blocks
 
-use bits::turn_bits;
 use drive_pass::Pass;
 use drive_text::drive_block;
 use last_text::write_last;
@@ -16,23 +14,25 @@ use limit::drive_to_limit;
 const TURNS: u32 = 100_000;
 
 // The last line of a pass.
-pub(crate) fn print_last(pass: Pass) {
+fn print_last(pass: Pass) {
     let mut line = [0; 128];
     let len = write_last(pass, &mut line);
     io::write_all(STDOUT_FILENO, &line[..len]);
 }
 
-// Drives a block, and prints its line. A refused one ends its pass, and the next block begins
-// another.
-fn drive_next(pass: Pass, block: &[u8]) -> Pass {
+// Drives a block, and prints its line where it is to be shown or the block is refused. A refused one
+// ends its pass, and the next block begins another.
+pub(crate) fn drive_next(pass: Pass, block: &[u8], shown: bool) -> Pass {
     let mut line = [0; 128];
     let w = drive_block(pass, block, &mut line);
     let len = w.len;
-    let next = w.pass;
-    io::write_all(STDOUT_FILENO, &line[..len]);
+    let mut next = w.pass;
+    if shown | w.refused {
+        io::write_all(STDOUT_FILENO, &line[..len]);
+    }
     if w.refused {
         print_last(next);
-        return Pass::Empty;
+        next = Pass::Empty;
     }
     next
 }
@@ -46,13 +46,12 @@ fn drive_passes() {
         if n == 0 {
             return;
         }
-        pass = drive_next(pass, &block[..n]);
+        pass = drive_next(pass, &block[..n], true);
         turns = turns - 1;
     }
 }
 
 fn main() {
-    turn_bits();
     drive_passes();
     drive_to_limit();
 }

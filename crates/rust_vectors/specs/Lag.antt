@@ -1,8 +1,10 @@
--- The list of the encoder lag: what a header describes, and the step of a call. Assumes nothing.
+-- The list of the encoder lag: the numbers that a header wants, the answer to a call, and what is compared after it. Assumes nothing.
 use Prim.Native.Nat.{ℕ}
 use mathlib.Core.Bool.{Bool, cond, _&&_}
 use mathlib.Core.List.{List}
 use lib.Dec.{eqb}
+use lib.Ieee.{binary32, ofBits}
+use lib.ListN.{getD, set}
 use Rattle.linear.specs.Vector.{zeros2}
 use Rattle.first_order_lag.specs.declared.FirstOrderLag.{FirstOrderLag}
 use Rattle.encoder_lag.specs.declared.FirstOrderLagAnswer.{FirstOrderLagAnswer}
@@ -11,12 +13,9 @@ use Rattle.encoder_lag.specs.EncoderLag.{lagOf}
 use Rattle.first_order_lag.specs.FirstOrderLag.{steppedOf, invertedOf, resetOf}
 use Rattle.block_words.specs.Word.{wordAt}
 use Rattle.block_floats.specs.Floats.{vector2At}
-use Rattle.rust_vectors.specs.declared.subject.Subject.{Subject}
-use Rattle.rust_vectors.specs.declared.subject.Subject.the-variants as subject
-use Rattle.rust_vectors.specs.declared.subject.Step.{Step}
 use Rattle.rust_vectors.specs.declared.lag.LagAnswer.{LagAnswer}
-use Rattle.rust_vectors.specs.Words.{word, words2}
-use Rattle.rust_vectors.specs.Step.{byKind3}
+use Rattle.rust_vectors.specs.Memory.{word, unanswered}
+use Rattle.rust_vectors.specs.Kinds.{byKind3}
 
 -- ---- the header: k, dt in µs, the number of steps, dt and the least time constant in s, the number of calls
 
@@ -24,14 +23,6 @@ use Rattle.rust_vectors.specs.Step.{byKind3}
 unfoldable pub isWanted : FirstOrderLag → List ℕ → Bool
 isWanted l s =
     (eqb (l .«n_steps») (wordAt s 2) && eqb (word (l .dt)) (wordAt s 3)) && eqb (word (l .«t_min»)) (wordAt s 4)
-
--- one of other numbers is none
-abbrev pub subjectOf : FirstOrderLagAnswer → List ℕ → Subject
-subjectOf (Made l) s = cond (isWanted l s) (subject.Lag l) subject.Nothing
-subjectOf Refused s = subject.Nothing
-
-unfoldable pub fresh : List ℕ → Subject
-fresh s = subjectOf (lagOf (wordAt s 0)) s
 
 -- ---- a call
 
@@ -43,8 +34,16 @@ answer l s =
     (record { lag = l; output = invertedOf l (vector2At s 1) })
     (record { lag = resetOf l; output = zeros2 })
 
--- the lag after a call, and what is compared
-unfoldable pub step : FirstOrderLag → List ℕ → Step
-step l s =
-    let a = answer l s in
-    record { subject = subject.Lag (a .lag); words = words2 (a .output) (a .lag .state) }
+-- what is compared after a call of a lag with the state of the words: the output and the state
+unfoldable pub stepMade : FirstOrderLag → List ℕ → List ℕ → List ℕ
+stepMade l s ws =
+    let a = answer (record { params = l .params; «t_min» = l .«t_min»; dt = l .dt; «n_steps» = l .«n_steps»; state = record { x = ofBits binary32 (getD ws 2 0); y = ofBits binary32 (getD ws 3 0) } }) s in
+    set (set (set (set ws 0 (word (a .output .x))) 1 (word (a .output .y))) 2 (word (a .lag .state .x))) 3 (word (a .lag .state .y))
+
+-- a lag of other numbers than the header's is none
+abbrev pub stepBy : FirstOrderLagAnswer → List ℕ → List ℕ → List ℕ → List ℕ
+stepBy (Made l) h s ws = cond (isWanted l h) (stepMade l s ws) (unanswered ws)
+stepBy Refused h s ws = unanswered ws
+
+unfoldable pub step : List ℕ → List ℕ → List ℕ → List ℕ
+step h s ws = stepBy (lagOf (wordAt h 0)) h s ws

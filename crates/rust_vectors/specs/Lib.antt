@@ -1,8 +1,8 @@
 -- What the contracts of `rust_vectors` cite. Assumes nothing.
-pub mod Words
-pub mod Step
+pub mod Memory
+pub mod Kinds
 pub mod Pids
 pub mod Brake
 pub mod Lag
-pub mod Subject
+pub mod Lists
 pub mod Compare

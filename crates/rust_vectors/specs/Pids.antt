@@ -1,8 +1,9 @@
--- The lists of the PID controllers: what a header describes, and the step of a call. Assumes nothing.
+-- The lists of the PID controllers: what a header describes, and the answer to a call. Assumes nothing.
 use Prim.Native.Nat.{ℕ, _+_, _*_}
 use mathlib.Core.Bool.{cond}
 use mathlib.Core.List.{List}
 use lib.Dec.{eqb}
+use lib.ListN.{getD}
 use Rattle.linear.specs.Vector.{zeroFloat, zeros3, zeros4}
 use Rattle.controller_params.specs.declared.PidGains.{PidGains}
 use Rattle.pid.specs.declared.AntiJitterThresh.{AntiJitterThresh}
@@ -20,11 +21,8 @@ use Rattle.pid_three.specs.Three.{calculated3, calculatedWithDerivative3, reset
 use Rattle.pid_four.specs.Four.{calculated4, calculatedWithDerivative4, reset4}
 use Rattle.block_words.specs.Word.{wordAt}
 use Rattle.block_floats.specs.Floats.{floatAt, vector3At, vector4At}
-use Rattle.rust_vectors.specs.declared.subject.Subject.{Subject}
-use Rattle.rust_vectors.specs.declared.subject.Subject.the-variants.{Pid1, Pid3, Pid4}
-use Rattle.rust_vectors.specs.declared.subject.Step.{Step}
-use Rattle.rust_vectors.specs.Words.{words1, words3, words4}
-use Rattle.rust_vectors.specs.Step.{byKind3}
+use Rattle.rust_vectors.specs.Memory.{withMemory, withMemory4, axisPut, fourPut}
+use Rattle.rust_vectors.specs.Kinds.{byKind3}
 
 -- ---- the header: the number of calls; the gains, axis by axis; whether there is a threshold, and one for each axis; whether there are limits, the low ones and the high ones
 
@@ -47,14 +45,13 @@ limitsAt s n i =
 unfoldable pub axisAt : List ℕ → ℕ → ℕ → PidController
 axisAt s n i = newController (gainsAt s i) (threshAt s n i) (limitsAt s n i)
 
-unfoldable pub fresh1 : List ℕ → Subject
-fresh1 s = Pid1 (axisAt s 1 0)
+-- three axes, with the memory of the words
+unfoldable pub threeAxes : List ℕ → List ℕ → PidController3
+threeAxes s ws =
+    record { x = withMemory (axisAt s 3 0) (getD ws 3 0) (getD ws 6 0); y = withMemory (axisAt s 3 1) (getD ws 4 0) (getD ws 7 0); z = withMemory (axisAt s 3 2) (getD ws 5 0) (getD ws 8 0) }
 
-unfoldable pub fresh3 : List ℕ → Subject
-fresh3 s = Pid3 (record { x = axisAt s 3 0; y = axisAt s 3 1; z = axisAt s 3 2 })
-
-unfoldable pub fresh4 : List ℕ → Subject
-fresh4 s = Pid4 (record { x = axisAt s 4 0; y = axisAt s 4 1; z = axisAt s 4 2; w = axisAt s 4 3 })
+unfoldable pub fourAxes : List ℕ → PidController4
+fourAxes s = record { x = axisAt s 4 0; y = axisAt s 4 1; z = axisAt s 4 2; w = axisAt s 4 3 }
 
 -- ---- a call: its kind (0 `calculate`, 1 `calculate_with_derivative`, 2 `reset`), setpoint, process variable, derivative and dt. A reset's output is zero.
 
@@ -79,19 +76,19 @@ answer4 c s =
     (calculatedWithDerivative4 c (vector4At s 1) (vector4At s 5) (vector4At s 9) (floatAt s 13))
     (record { output = zeros4; controller = reset4 c })
 
--- ---- the controller after a call, and what is compared
+-- ---- a run's header, a call and the words before it: the words that are compared after it
 
-unfoldable pub step1 : PidController → List ℕ → Step
-step1 c s =
-    let a = answer1 c s in
-    record { subject = Pid1 (a .controller); words = words1 (a .output) (a .controller) }
+unfoldable pub step1 : List ℕ → List ℕ → List ℕ → List ℕ
+step1 h s ws =
+    let a = answer1 (withMemory (axisAt h 1 0) (getD ws 1 0) (getD ws 2 0)) s in
+    axisPut ws 1 0 (a .output) (a .controller)
 
-unfoldable pub step3 : PidController3 → List ℕ → Step
-step3 c s =
-    let a = answer3 c s in
-    record { subject = Pid3 (a .controller); words = words3 (a .output) (a .controller) }
+unfoldable pub step3 : List ℕ → List ℕ → List ℕ → List ℕ
+step3 h s ws =
+    let a = answer3 (threeAxes h ws) s in
+    axisPut (axisPut (axisPut ws 3 0 (a .output .x) (a .controller .x)) 3 1 (a .output .y) (a .controller .y)) 3 2 (a .output .z) (a .controller .z)
 
-unfoldable pub step4 : PidController4 → List ℕ → Step
-step4 c s =
-    let a = answer4 c s in
-    record { subject = Pid4 (a .controller); words = words4 (a .output) (a .controller) }
+unfoldable pub step4 : List ℕ → List ℕ → List ℕ → List ℕ
+step4 h s ws =
+    let a = answer4 (withMemory4 (fourAxes h) ws) s in
+    fourPut ws (a .output) (a .controller)

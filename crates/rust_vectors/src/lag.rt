@@ -1,14 +1,13 @@
 // The list of the encoder lag.
 ghost use mathlib.Core.Path.{_≡_};
-ghost use Rattle.rust_vectors.specs.Lag.{isWanted, fresh, answer, step};
-use crate::subject::Step;
-use crate::subject::Subject;
-use crate::words::words2;
+ghost use Rattle.rust_vectors.specs.Lag.{isWanted, answer, stepMade, step};
+use crate::memory::UNANSWERED;
 use block_floats::vec2_at;
 use block_words::word_at;
 use encoder_lag::FirstOrderLagAnswer;
 use encoder_lag::new_from_horizon;
 use first_order_lag::FirstOrderLag;
+use float_bits::from_bits;
 use float_bits::to_bits;
 use linear::Vector2f;
 use linear::ZEROS_2;
@@ -28,22 +27,6 @@ fn is_wanted(l: FirstOrderLag, header: &[u8]) -> bool
     let dt = to_bits(l.dt) == word_at(header, 3);
     let t_min = to_bits(l.t_min) == word_at(header, 4);
     (l.n_steps == steps) & dt & t_min
-}
-
-// A lag of other numbers is none.
-pub(crate) fn fresh(header: &[u8]) -> Subject
-    ensures { λ r. ⌜ r ≡ fresh (now (header .entry)) ⌝ }
-{
-    match new_from_horizon(word_at(header, 0)) {
-        FirstOrderLagAnswer::Made(l) => {
-            if is_wanted(l, header) {
-                Subject::Lag(l)
-            } else {
-                Subject::Nothing
-            }
-        }
-        FirstOrderLagAnswer::Refused => Subject::Nothing,
-    }
 }
 
 // A call has its kind and the input, and then what is compared. The last kind is reset. The output
@@ -68,13 +51,35 @@ fn answer(l: FirstOrderLag, call: &[u8]) -> LagAnswer
     }
 }
 
-pub(crate) fn step(l: FirstOrderLag, call: &[u8]) -> Step
-    ensures { λ r. ⌜ r ≡ step l (now (call .entry)) ⌝ }
+fn step_made(mut l: FirstOrderLag, call: &[u8], words: &mut [u32; 12])
+    ensures { λ _. ⌜ now (words .exit) ≡ stepMade l (now (call .entry)) (now (words .entry)) ⌝ }
 {
+    let state = Vector2f {
+        x: from_bits(words[2]),
+        y: from_bits(words[3]),
+    };
+    l.state = state;
     let a = answer(l, call);
-    let next = a.lag;
-    Step {
-        subject: Subject::Lag(next),
-        words: words2(a.output, next.state),
+    words[0] = to_bits(a.output.x);
+    words[1] = to_bits(a.output.y);
+    words[2] = to_bits(a.lag.state.x);
+    words[3] = to_bits(a.lag.state.y);
+}
+
+// A lag of other numbers than the header's is none.
+pub(crate) fn step(header: &[u8], call: &[u8], words: &mut [u32; 12])
+    ensures { λ _. ⌜ now (words .exit) ≡ step (now (header .entry)) (now (call .entry)) (now (words .entry)) ⌝ }
+{
+    match FirstOrderLag::new(word_at(header, 0)) {
+        FirstOrderLagAnswer::Made(l) => {
+            if is_wanted(l, header) {
+                step_made(l, call, words);
+            } else {
+                words[0] = UNANSWERED;
+            }
+        }
+        FirstOrderLagAnswer::Refused => {
+            words[0] = UNANSWERED;
+        }
     }
 }

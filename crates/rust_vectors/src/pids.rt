@@ -1,11 +1,10 @@
 // The lists of the PID controllers of one, three and four axes.
 ghost use mathlib.Core.Path.{_≡_};
-ghost use Rattle.rust_vectors.specs.Pids.{gainsAt, threshAt, limitsAt, axisAt, fresh1, fresh3, fresh4, answer1, answer3, answer4, step1, step3, step4};
-use crate::subject::Step;
-use crate::subject::Subject;
-use crate::words::words1;
-use crate::words::words3;
-use crate::words::words4;
+ghost use Rattle.rust_vectors.specs.Pids.{gainsAt, threshAt, limitsAt, axisAt, threeAxes, fourAxes, answer1, answer3, answer4, step1, step3, step4};
+use crate::memory::put_axis;
+use crate::memory::put_four;
+use crate::memory::with_memory;
+use crate::memory::with_memory4;
 use block_floats::float_at;
 use block_floats::vec3_at;
 use block_floats::vec4_at;
@@ -62,7 +61,7 @@ fn limits_at(header: &[u8], n: u8, i: u8) -> OutputLimits
     }
 }
 
-// Axis i of n.
+// Axis i of n, with nothing remembered.
 fn axis_at(header: &[u8], n: u8, i: u8) -> PidController
     ensures { λ r. ⌜ r ≡ axisAt (now (header .entry)) n i ⌝ }
 {
@@ -71,31 +70,25 @@ fn axis_at(header: &[u8], n: u8, i: u8) -> PidController
     PidController::new(gain, thresh, limits_at(header, n, i))
 }
 
-pub(crate) fn fresh1(header: &[u8]) -> Subject
-    ensures { λ r. ⌜ r ≡ fresh1 (now (header .entry)) ⌝ }
+fn three_axes(header: &[u8], words: &[u32; 12]) -> PidController3
+    ensures { λ r. ⌜ r ≡ threeAxes (now (header .entry)) (now (words .entry)) ⌝ }
 {
-    Subject::Pid1(axis_at(header, 1, 0))
+    PidController3 {
+        x: with_memory(axis_at(header, 3, 0), words[3], words[6]),
+        y: with_memory(axis_at(header, 3, 1), words[4], words[7]),
+        z: with_memory(axis_at(header, 3, 2), words[5], words[8]),
+    }
 }
 
-pub(crate) fn fresh3(header: &[u8]) -> Subject
-    ensures { λ r. ⌜ r ≡ fresh3 (now (header .entry)) ⌝ }
+fn four_axes(header: &[u8]) -> PidController4
+    ensures { λ r. ⌜ r ≡ fourAxes (now (header .entry)) ⌝ }
 {
-    Subject::Pid3(PidController3 {
-        x: axis_at(header, 3, 0),
-        y: axis_at(header, 3, 1),
-        z: axis_at(header, 3, 2),
-    })
-}
-
-pub(crate) fn fresh4(header: &[u8]) -> Subject
-    ensures { λ r. ⌜ r ≡ fresh4 (now (header .entry)) ⌝ }
-{
-    Subject::Pid4(PidController4 {
+    PidController4 {
         x: axis_at(header, 4, 0),
         y: axis_at(header, 4, 1),
         z: axis_at(header, 4, 2),
         w: axis_at(header, 4, 3),
-    })
+    }
 }
 
 // A call has its kind, setpoint, process variable, derivative and dt, and then what is compared. The
@@ -148,35 +141,25 @@ fn answer4(c: PidController4, call: &[u8]) -> PidAnswer4
     }
 }
 
-pub(crate) fn step1(c: PidController, call: &[u8]) -> Step
-    ensures { λ r. ⌜ r ≡ step1 c (now (call .entry)) ⌝ }
+pub(crate) fn step1(header: &[u8], call: &[u8], words: &mut [u32; 12])
+    ensures { λ _. ⌜ now (words .exit) ≡ step1 (now (header .entry)) (now (call .entry)) (now (words .entry)) ⌝ }
 {
-    let a = answer1(c, call);
-    let next = a.controller;
-    Step {
-        subject: Subject::Pid1(next),
-        words: words1(a.output, next),
-    }
+    let a = answer1(with_memory(axis_at(header, 1, 0), words[1], words[2]), call);
+    put_axis(words, 1, 0, a.output, a.controller);
 }
 
-pub(crate) fn step3(c: PidController3, call: &[u8]) -> Step
-    ensures { λ r. ⌜ r ≡ step3 c (now (call .entry)) ⌝ }
+pub(crate) fn step3(header: &[u8], call: &[u8], words: &mut [u32; 12])
+    ensures { λ _. ⌜ now (words .exit) ≡ step3 (now (header .entry)) (now (call .entry)) (now (words .entry)) ⌝ }
 {
-    let a = answer3(c, call);
-    let next = a.controller;
-    Step {
-        subject: Subject::Pid3(next),
-        words: words3(a.output, next),
-    }
+    let a = answer3(three_axes(header, words), call);
+    put_axis(words, 3, 0, a.output.x, a.controller.x);
+    put_axis(words, 3, 1, a.output.y, a.controller.y);
+    put_axis(words, 3, 2, a.output.z, a.controller.z);
 }
 
-pub(crate) fn step4(c: PidController4, call: &[u8]) -> Step
-    ensures { λ r. ⌜ r ≡ step4 c (now (call .entry)) ⌝ }
+pub(crate) fn step4(header: &[u8], call: &[u8], words: &mut [u32; 12])
+    ensures { λ _. ⌜ now (words .exit) ≡ step4 (now (header .entry)) (now (call .entry)) (now (words .entry)) ⌝ }
 {
-    let a = answer4(c, call);
-    let next = a.controller;
-    Step {
-        subject: Subject::Pid4(next),
-        words: words4(a.output, next),
-    }
+    let a = answer4(with_memory4(four_axes(header), words), call);
+    put_four(words, a.output, a.controller);
 }

@@ -5,10 +5,8 @@ use crate::put::put_vec3;
 use crate::put::put_vec4;
 use crate::put::put_vec6;
 use body_controller::FinishAnswer;
-use call_answers::Finished;
 use body_controller::PlanCallAnswer;
 use body_controller::SightAnswer;
-use call_answers::Sighted;
 use body_controller::SteerAnswer;
 use float_bits::to_bits;
 use gate_action::GateAction;
@@ -29,29 +27,24 @@ fn outcome(action: GateAction) -> u32 {
     }
 }
 
-fn put_sighted(words: &mut [u32; 96], s: Sighted) {
-    let action = s.action;
-    let m = s.measurement;
-    words[1] = outcome(action);
-    put_vec3(words, 3, m.vision_pose);
-    put_vec4(words, 6, m.wheel_vel);
-    words[10] = to_bits(m.gyro_theta);
-    words[11] = mark(s.effective_vision_update);
-    put_vec6(words, 12, s.state_prediction);
-}
-
 pub(crate) fn put_sight(words: &mut [u32; 96], answer: SightAnswer) {
     match answer {
-        SightAnswer::Accepted(s) => put_sighted(words, s),
+        SightAnswer::Accepted(s) => {
+            let action = s.action;
+            words[1] = outcome(action);
+            put_vec3(words, 3, s.measurement.vision_pose);
+            put_vec4(words, 6, s.measurement.wheel_vel);
+            words[10] = to_bits(s.measurement.gyro_theta);
+            words[11] = mark(s.effective_vision_update);
+            put_vec6(words, 12, s.state_prediction);
+        }
         SightAnswer::Refused(r) => refuse(words, r.number()),
     }
 }
 
 fn put_planned(words: &mut [u32; 96], answer: PlanAnswer) {
     match answer {
-        PlanAnswer::Hold => {
-            words[18] = 0;
-        }
+        PlanAnswer::Hold => {}
         PlanAnswer::NoVision => {
             words[18] = 1;
         }
@@ -92,16 +85,14 @@ pub(crate) fn put_outputs(words: &mut [u32; 96], o: Outputs) {
     put_vec4(words, 41, o.wheel_torque_out);
 }
 
-fn put_finished(words: &mut [u32; 96], f: Finished) {
-    put_outputs(words, f.outputs);
-    words[45] = mark(f.vel_clamped);
-    words[46] = mark(f.accel_clamped);
-    words[47] = mark(f.wheels_disabled);
-}
-
 pub(crate) fn put_finish(words: &mut [u32; 96], answer: FinishAnswer) {
     match answer {
-        FinishAnswer::Accepted(f) => put_finished(words, f),
+        FinishAnswer::Accepted(f) => {
+            put_outputs(words, f.outputs);
+            words[45] = mark(f.vel_clamped);
+            words[46] = mark(f.accel_clamped);
+            words[47] = mark(f.wheels_disabled);
+        }
         FinishAnswer::Refused(r) => {
             words[2] = r.number() as u32;
         }

@@ -1,10 +1,14 @@
 // A block's words, and the controller after it.
 use crate::calls::run_calls;
 use crate::state::put_state;
+use block_words::word_at;
 use body_controller::BodyController;
 use body_controller::NewAnswer;
 use tick_block::BlockAnswer;
 use tick_block::read;
+
+// Where a block has its k.
+const TICK_LENGTH: usize = 105;
 
 // Word 1 of a refused block, behind the eight outcomes.
 pub(crate) const REFUSED: u32 = 8;
@@ -14,100 +18,49 @@ pub(crate) fn refuse(words: &mut [u32; 96], refusal: u8) {
     words[2] = refusal as u32;
 }
 
-// The refusal 9 or 10, or 0: what the block has beside what is due.
-fn refusal_of(k: u8, due_k: u8, number: u32, due_number: u32) -> u8 {
-    if k != due_k {
-        return 9;
-    }
-    if number != due_number {
-        return 10;
-    }
-    0
-}
-
-// The controller that a pass begins with.
-fn begin(c: BodyController, k: u8, words: &mut [u32; 96]) -> BodyController {
-    let made = BodyController::new(k as u32);
-    match made {
-        NewAnswer::Made(new) => {
-            return new;
-        }
-        NewAnswer::Refused(r) => {
-            refuse(words, r.number());
-            return c;
-        }
-    }
-}
-
-// The controller that drives a block with this k and number, where word 0 is the next tick's. A
-// pass's first block has number 0, and its k makes the controller.
-fn ready(
-    c: BodyController,
-    driving: bool,
-    k: u8,
-    number: u32,
-    words: &mut [u32; 96],
-) -> BodyController {
-    if driving {
-        let own = c.tick_length();
-        let refusal = refusal_of(k, own.k, number, words[0]);
-        if refusal != 0 {
-            refuse(words, refusal);
-        }
-        return c;
-    }
-    if number != 0 {
-        refuse(words, 10);
-        return c;
-    }
-    begin(c, k, words)
-}
-
-fn read_and_run(
-    c: BodyController,
-    driving: bool,
-    block: &[u8],
-    words: &mut [u32; 96],
-) -> BodyController {
-    let answer = read(block);
-    match answer {
+fn read_and_run(mut c: BodyController, block: &[u8], words: &mut [u32; 96]) -> BodyController {
+    match read(block) {
         BlockAnswer::Read(b) => {
-            let tick = b.tick;
-            let own = ready(c, driving, tick.k, b.number, words);
-            return run_calls(own, b, words);
+            c = run_calls(c, b, words);
         }
         BlockAnswer::Refused(r) => {
             refuse(words, r.number());
-            return c;
         }
     }
+    c
 }
 
-// What is left after a block. A refused one leaves the state that a reset call then gives; a tick
-// that was turned away leaves its own, and one that was finished has put it.
-fn put_left(words: &mut [u32; 96], driving: bool, c: BodyController) {
-    if words[1] == REFUSED {
-        if driving {
-            put_state(words, c.reset());
+// The controller that a pass begins with. A k that makes none is refused where the block is read.
+fn begin(mut c: BodyController, k: u32) -> BodyController {
+    match BodyController::new(k) {
+        NewAnswer::Made(new) => {
+            c = new;
         }
-        return;
+        NewAnswer::Refused(r) => {}
     }
-    if words[2] != 0 {
-        put_state(words, c);
-    }
+    c
 }
 
-// A refused block has the number that its tick would have had. The next block begins another pass.
+// A refused block has the number that its tick would have had, and the state that a reset call then
+// gives. The next block begins another pass.
 pub(crate) fn run_block(
-    c: BodyController,
+    mut c: BodyController,
     driving: bool,
     block: &[u8],
     words: &mut [u32; 96],
 ) -> BodyController {
     if driving {
         words[0] = c.ticks();
+    } else {
+        c = begin(c, word_at(block, TICK_LENGTH));
     }
-    let after = read_and_run(c, driving, block, words);
-    put_left(words, driving, after);
-    after
+    c = read_and_run(c, block, words);
+    let refused = words[1] == REFUSED;
+    if refused {
+        c = c.reset();
+    }
+    if driving | !refused {
+        put_state(words, c);
+    }
+    c
 }

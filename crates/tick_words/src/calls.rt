@@ -4,13 +4,14 @@ use crate::answers::put_finish;
 use crate::answers::put_plan;
 use crate::answers::put_sight;
 use crate::answers::put_steer;
-use crate::state::put_state;
+use crate::block::refuse;
 use body_controller::BodyController;
 use call_inputs::FinishInput;
 use call_inputs::PlanInput;
 use call_inputs::SightInput;
 use call_inputs::SteerInput;
 use tick_block::TickBlock;
+use tick_length::TickLength;
 
 fn sight(c: BodyController, i: SightInput, words: &mut [u32; 96]) -> BodyController {
     let result = c.sight(i);
@@ -33,35 +34,41 @@ fn steer(c: BodyController, i: SteerInput, words: &mut [u32; 96]) -> BodyControl
     result.controller
 }
 
-// The answer's words come last, so that the state's outputs show where there is no answer.
 fn finish(c: BodyController, i: FinishInput, words: &mut [u32; 96]) -> BodyController {
     let result = c.finish(i);
-    put_state(words, result.controller);
     let answer = result.answer;
     put_finish(words, answer);
     result.controller
 }
 
-// The calls, up to the first that is turned away; none where the block was.
+// The refusals 9 and 10: a block in order is of the controller's k, and has the next tick's number,
+// which is word 0.
+fn test_order(words: &mut [u32; 96], own: TickLength, tick: TickLength, number: u32) {
+    if own.k != tick.k {
+        refuse(words, 9);
+    } else if number != words[0] {
+        refuse(words, 10);
+    }
+}
+
+// The calls, up to the first that is turned away.
 pub(crate) fn run_calls(
-    first: BodyController,
+    mut c: BodyController,
     b: TickBlock,
     words: &mut [u32; 96],
 ) -> BodyController {
-    if words[2] != 0 {
-        return first;
+    test_order(words, c.tick_length(), b.tick, b.number);
+    if words[2] == 0 {
+        c = sight(c, b.sight, words);
     }
-    let mut c = sight(first, b.sight, words);
-    if words[2] != 0 {
-        return c;
+    if words[2] == 0 {
+        c = plan(c, b.plan, words);
     }
-    c = plan(c, b.plan, words);
-    if words[2] != 0 {
-        return c;
+    if words[2] == 0 {
+        c = steer(c, b.steer, words);
     }
-    c = steer(c, b.steer, words);
-    if words[2] != 0 {
-        return c;
+    if words[2] == 0 {
+        c = finish(c, b.finish, words);
     }
-    finish(c, b.finish, words)
+    c
 }

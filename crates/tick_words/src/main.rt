@@ -20,23 +20,13 @@ use libc::STDOUT_FILENO;
 // As many blocks as 256 passes can drive.
 const TURNS: u64 = 4_294_967_296;
 
-// Byte `place` of a word, the lowest first.
-fn byte_of(word: u32, place: usize) -> u8 {
-    match place {
-        0 => (word % 256) as u8,
-        1 => (word / 0x100 % 256) as u8,
-        2 => (word / 0x1_0000 % 256) as u8,
-        _ => (word / 0x100_0000 % 256) as u8,
-    }
-}
-
 fn put_bytes(out: &mut [u8], words: &[u32; 96])
     requires { ⌜ 384 ≤ length (now out) ⌝ }
     ensures { λ _. ⌜ length (now (out .exit)) ≡ length (now (out .entry)) ⌝ }
 {
     let mut i: usize = 0;
     while i < 384 {
-        out[i] = byte_of(words[i / 4], i % 4);
+        out[i] = ((words[i / 4] >> (i % 4 * 8)) % 256) as u8;
         i = i + 1;
     }
 }
@@ -49,8 +39,7 @@ fn write(words: &[u32; 96]) -> bool {
 }
 
 // Reads and runs block after block; c stands for no pass until a block begins one.
-fn run(first: BodyController) {
-    let mut c = first;
+fn run(mut c: BodyController) {
     let mut driving = false;
     let mut turns = TURNS;
     while turns > 0 {

@@ -17,13 +17,6 @@ pub(crate) fn put3(words: &mut [u32; 96], at: usize, x: f32, y: f32, z: f32)
     words[at + 2] = to_bits(z);
 }
 
-pub(crate) fn put4(words: &mut [u32; 96], at: usize, x: f32, y: f32, z: f32, w: f32)
-    requires { ⌜ at + 3 < 96 ⌝ }
-{
-    put3(words, at, x, y, z);
-    words[at + 3] = to_bits(w);
-}
-
 pub(crate) fn put_vec3(words: &mut [u32; 96], at: usize, v: Vector3f)
     requires { ⌜ at + 2 < 96 ⌝ }
 {
@@ -33,7 +26,8 @@ pub(crate) fn put_vec3(words: &mut [u32; 96], at: usize, v: Vector3f)
 pub(crate) fn put_vec4(words: &mut [u32; 96], at: usize, v: Vector4f)
     requires { ⌜ at + 3 < 96 ⌝ }
 {
-    put4(words, at, v.x, v.y, v.z, v.w);
+    put3(words, at, v.x, v.y, v.z);
+    words[at + 3] = to_bits(v.w);
 }
 
 pub(crate) fn put_vec6(words: &mut [u32; 96], at: usize, v: Vector6f)

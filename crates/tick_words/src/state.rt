@@ -3,9 +3,9 @@ ghost use Prim.Native.Nat.{_+_, _<_};
 use crate::answers::put_outputs;
 use crate::put::mark;
 use crate::put::put_vec3;
+use crate::put::put_vec4;
 use crate::put::put_vec6;
 use crate::put::put3;
-use crate::put::put4;
 use body_controller::BodyController;
 use commands::GlobalPosition;
 use commands::HeadingLine;
@@ -13,23 +13,25 @@ use commands::ManeuverCommand;
 use control_context::ControlContext;
 use float_bits::to_bits;
 use gate::VisionGateState;
+use linear::Vector4f;
 use plan_memory::HeldSample;
-use plan_memory::Memory;
 use plan_memory::PrevCommand;
-use seeding::Seeding;
-use setpoints::PidMemory;
-use vision_gate::Vision;
-
-fn put_seeding(words: &mut [u32; 96], s: Seeding) {
-    let sum = s.pos_sum;
-    let squares = s.pos_sq_sum;
-    words[49] = s.n;
-    put4(words, 50, sum.x, sum.y, squares.x, squares.y);
-}
 
 fn put_gate(words: &mut [u32; 96], gate: VisionGateState) {
     match gate {
-        VisionGateState::Seeding(s) => put_seeding(words, s),
+        VisionGateState::Seeding(s) => {
+            words[49] = s.n;
+            put_vec4(
+                words,
+                50,
+                Vector4f {
+                    x: s.pos_sum.x,
+                    y: s.pos_sum.y,
+                    z: s.pos_sq_sum.x,
+                    w: s.pos_sq_sum.y,
+                },
+            );
+        }
         VisionGateState::Tracking(t) => {
             words[48] = 1;
             words[54] = to_bits(t);
@@ -103,36 +105,30 @@ fn put_previous(words: &mut [u32; 96], prev: PrevCommand) {
     }
 }
 
-fn put_pid(words: &mut [u32; 96], pid: PidMemory) {
-    put_vec3(words, 89, pid.prev_error);
-    put_vec3(words, 92, pid.integrated_error);
-}
-
-fn put_vision(words: &mut [u32; 96], vision: Vision) {
-    words[55] = to_bits(vision.time_since_vision_update_s);
+fn put_context(words: &mut [u32; 96], k: ControlContext) {
+    let vision = k.vision;
     let gate = vision.gate;
+    words[55] = to_bits(vision.time_since_vision_update_s);
     put_gate(words, gate);
-}
-
-fn put_memory(words: &mut [u32; 96], memory: Memory) {
+    let memory = k.memory;
     let held = memory.held;
     let prev_cmd = memory.prev_cmd;
     put_held(words, held);
     put_previous(words, prev_cmd);
-}
-
-fn put_context(words: &mut [u32; 96], k: ControlContext) {
-    words[47] = mark(k.wheels_disabled);
     words[82] = k.prev_mode;
-    put_vision(words, k.vision);
-    put_memory(words, k.memory);
     put_vec6(words, 83, k.state_estimate);
-    put_pid(words, k.pose_pid);
+    put_vec3(words, 89, k.pose_pid.prev_error);
+    put_vec3(words, 92, k.pose_pid.integrated_error);
 }
 
+// A tick that was finished has put its outputs and the wheels' mark.
 pub(crate) fn put_state(words: &mut [u32; 96], c: BodyController) {
+    let context = c.context();
     words[56] = mark(c.vision_active());
     words[57] = mark(c.tracking_divergence_recovery_active());
-    put_outputs(words, c.outputs());
-    put_context(words, c.context());
+    put_context(words, context);
+    if words[2] != 0 {
+        put_outputs(words, c.outputs());
+        words[47] = mark(context.wheels_disabled);
+    }
 }

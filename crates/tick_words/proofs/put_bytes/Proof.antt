@@ -15,14 +15,23 @@ abbrev μ-loop : tie.MeasureT-loop
 loop-holds : tie.Need-loop-holds Inv-loop μ-loop
 loop-holds c = search needs
 
-mul-byte-of : tie.Need-mul-byte-of Inv-loop μ-loop
-mul-byte-of c = search needs
+mul-out : tie.Need-mul-out Inv-loop μ-loop
+mul-out c = search needs
 
-element-copy-out-byte-of : tie.Need-element-copy-out-byte-of Inv-loop μ-loop
-element-copy-out-byte-of c = search needs
+element-copy-out-out : tie.Need-element-copy-out-out Inv-loop μ-loop
+element-copy-out-out c = search needs
 
-byte-of-requires : tie.Need-byte-of-requires Inv-loop μ-loop
-byte-of-requires c κs = search needs
+mul-out-2 : tie.Need-mul-out-2 Inv-loop μ-loop
+mul-out-2 c = search needs
+
+cast-out : tie.Need-cast-out Inv-loop μ-loop
+cast-out c = search needs
+
+shr-out : tie.Need-shr-out Inv-loop μ-loop
+shr-out c = search needs
+
+cast-out-2 : tie.Need-cast-out-2 Inv-loop μ-loop
+cast-out-2 c = search needs
 
 slice-write-out : tie.Need-slice-write-out Inv-loop μ-loop
 slice-write-out c = search needs
@@ -49,9 +58,12 @@ put-bytes-spec =
     Inv-loop
     μ-loop
     loop-holds
-    mul-byte-of
-    element-copy-out-byte-of
-    byte-of-requires
+    mul-out
+    element-copy-out-out
+    mul-out-2
+    cast-out
+    shr-out
+    cast-out-2
     slice-write-out
     add-i
     loop-less

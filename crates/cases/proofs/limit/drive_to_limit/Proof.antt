@@ -12,26 +12,32 @@ Inv-loop block₀ pass₀ number₀ block pass number = 512 ≡ length block
 abbrev μ-loop : tie.MeasureT-loop
 μ-loop block₀ pass₀ number₀ block pass number = 16777217 - number
 
-slice-aggregate-put-word : tie.Need-slice-aggregate-put-word Inv-loop μ-loop
-slice-aggregate-put-word c = search needs
+array-write-block : tie.Need-array-write-block Inv-loop μ-loop
+array-write-block c = search needs
 
-put-word-requires : tie.Need-put-word-requires Inv-loop μ-loop
-put-word-requires c κs = search needs
-
-slice-aggregate-put-word-2 : tie.Need-slice-aggregate-put-word-2 Inv-loop μ-loop
-slice-aggregate-put-word-2 c = search needs
-
-put-word-requires-2 : tie.Need-put-word-requires-2 Inv-loop μ-loop
-put-word-requires-2 c κs = search needs
+array-write-block-2 : tie.Need-array-write-block-2 Inv-loop μ-loop
+array-write-block-2 c = search needs
 
 loop-holds : tie.Need-loop-holds Inv-loop μ-loop
 loop-holds c = search needs
 
-slice-aggregate-drive-quiet : tie.Need-slice-aggregate-drive-quiet Inv-loop μ-loop
-slice-aggregate-drive-quiet c = search needs
+put-number-requires : tie.Need-put-number-requires Inv-loop μ-loop
+put-number-requires c κs = search needs
 
-drive-quiet-requires : tie.Need-drive-quiet-requires Inv-loop μ-loop
-drive-quiet-requires c κs = search needs
+slice-aggregate-drive-next : tie.Need-slice-aggregate-drive-next Inv-loop μ-loop
+slice-aggregate-drive-next c = search needs
+
+drive-next-requires : tie.Need-drive-next-requires Inv-loop μ-loop
+drive-next-requires c κs = search needs
+
+add-number : tie.Need-add-number Inv-loop μ-loop
+add-number c = search needs
+
+next-number-requires : tie.Need-next-number-requires Inv-loop μ-loop
+next-number-requires c κs = search needs
+
+returns : tie.Need-returns Inv-loop μ-loop
+returns c = search needs
 
 loop-less : tie.Need-loop-less Inv-loop μ-loop
 loop-less c = search needs
@@ -39,20 +45,8 @@ loop-less c = search needs
 loop-again : tie.Need-loop-again Inv-loop μ-loop
 loop-again c = search needs
 
-add-number : tie.Need-add-number Inv-loop μ-loop
-add-number c = search needs
-
-loop-less-2 : tie.Need-loop-less-2 Inv-loop μ-loop
-loop-less-2 c = search needs
-
-loop-again-2 : tie.Need-loop-again-2 Inv-loop μ-loop
-loop-again-2 c = search needs
-
-print-last-requires : tie.Need-print-last-requires Inv-loop μ-loop
-print-last-requires c κs = search needs
-
-returns : tie.Need-returns Inv-loop μ-loop
-returns c = search needs
+returns-2 : tie.Need-returns-2 Inv-loop μ-loop
+returns-2 c = search needs
 
 pub drive-to-limit-spec : {M : Type 1} → statement M
 drive-to-limit-spec =
@@ -60,17 +54,15 @@ drive-to-limit-spec =
     (tie.spec
     Inv-loop
     μ-loop
-    slice-aggregate-put-word
-    put-word-requires
-    slice-aggregate-put-word-2
-    put-word-requires-2
+    array-write-block
+    array-write-block-2
     loop-holds
-    slice-aggregate-drive-quiet
-    drive-quiet-requires
+    put-number-requires
+    slice-aggregate-drive-next
+    drive-next-requires
+    add-number
+    next-number-requires
+    returns
     loop-less
     loop-again
-    add-number
-    loop-less-2
-    loop-again-2
-    print-last-requires
-    returns)
+    returns-2)
