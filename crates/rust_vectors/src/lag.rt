@@ -70,7 +70,7 @@ fn step_made(mut l: FirstOrderLag, call: &[u8], words: &mut [u32; 12])
 pub(crate) fn step(header: &[u8], call: &[u8], words: &mut [u32; 12])
     ensures { λ _. ⌜ now (words .exit) ≡ step (now (header .entry)) (now (call .entry)) (now (words .entry)) ⌝ }
 {
-    match FirstOrderLag::new(word_at(header, 0)) {
+    match new_from_horizon(word_at(header, 0)) {
         FirstOrderLagAnswer::Made(l) => {
             if is_wanted(l, header) {
                 step_made(l, call, words);
