@@ -2,16 +2,16 @@
 use mathlib.Core.Bool.{Bool, cond, _||_}
 use lib.Ieee.{Float, le}
 use Rattle.float_bits.specs.Magnitude.{magnitude}
+use Rattle.float_hypot.specs.Hypot.{hypotenuse}
 use Rattle.linear.specs.declared.Vector3f.{Vector3f}
 use Rattle.linear.specs.declared.Vector6f.{Vector6f}
 use Rattle.linear.specs.Vector.{zeroFloat}
 use Rattle.matrices.specs.Rotation.{toLocal}
 use Rattle.controller_params.specs.Params.{frictionCompGating}
-use Rattle.planar.specs.Planar.{hypotXY}
 
 -- 'Steer': gates 0.1 for the linear velocity and 0.5 for the linear acceleration, both inclusive
 unfoldable pub linearCompOn : Vector3f → Vector3f → Bool
-linearCompOn vel accel = le (frictionCompGating .«linear_accel») (hypotXY accel) || le (frictionCompGating .«linear_vel») (hypotXY vel)
+linearCompOn vel accel = le (frictionCompGating .«linear_accel») (hypotenuse (accel .x) (accel .y)) || le (frictionCompGating .«linear_vel») (hypotenuse (vel .x) (vel .y))
 
 -- 'Steer': gates 0.5 for the angular velocity and 1.0 for the angular acceleration, both inclusive
 unfoldable pub angularCompOn : Vector3f → Vector3f → Bool

@@ -3,16 +3,16 @@ ghost use mathlib.Core.Path.{_≡_};
 ghost use Rattle.friction.specs.Friction.{linearCompOn, angularCompOn, keptIf, frictionTwist};
 use controller_params::FRICTION_COMP_GATING;
 use float_bits::abs;
+use float_hypot::hypot;
 use linear::Vector3f;
 use linear::Vector6f;
 use matrices::rotation::rotate_to_local;
-use planar::hypot_xy;
 
 fn linear_comp_on(vel: Vector3f, accel: Vector3f) -> bool
     ensures { λ r. ⌜ r ≡ linearCompOn vel accel ⌝ }
 {
-    (hypot_xy(accel) >= FRICTION_COMP_GATING.linear_accel)
-        | (hypot_xy(vel) >= FRICTION_COMP_GATING.linear_vel)
+    (hypot(accel.x, accel.y) >= FRICTION_COMP_GATING.linear_accel)
+        | (hypot(vel.x, vel.y) >= FRICTION_COMP_GATING.linear_vel)
 }
 
 fn angular_comp_on(vel: Vector3f, accel: Vector3f) -> bool

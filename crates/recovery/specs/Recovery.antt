@@ -2,6 +2,7 @@
 use mathlib.Core.Bool.{Bool, true, false, cond}
 use lib.Ieee.{binary32}
 use Rattle.float_bits.specs.Magnitude.{magnitude}
+use Rattle.float_hypot.specs.Hypot.{hypotenuse}
 use Rattle.float_remainder.specs.Remainder.{remainderBy, tau}
 use Rattle.linear.specs.declared.Vector4f.{Vector4f}
 use Rattle.linear.specs.declared.Vector6f.{Vector6f}
@@ -13,7 +14,6 @@ use Rattle.divergence.specs.declared.TrackingDivergenceState.the-variants.{Norm
 use Rattle.recovery.specs.declared.HeldState.{HeldState}
 use Rattle.recovery.specs.declared.HeldState.the-variants.{Absent, Held}
 use Rattle.recovery.specs.declared.RecoveryAnswer.{RecoveryAnswer}
-use Rattle.planar.specs.Planar.{hypotXY}
 use Rattle.tracking_limits.specs.Limits.{anyExceeds, atRest}
 
 -- 'Steer': the errors of a sample's state beside the estimate, in the order of their limits; the headings' is wrapped
@@ -22,9 +22,9 @@ trackingErrors sample estimate =
     let pose = differenceOf (sample .pose) (estimate .pose) in
     let twist = differenceOf (sample .twist) (estimate .twist) in
     record {
-      «pos_linear» = hypotXY pose;
+      «pos_linear» = hypotenuse (pose .x) (pose .y);
       «pos_angular» = magnitude (remainderBy binary32 (pose .z) tau);
-      «vel_linear» = hypotXY twist;
+      «vel_linear» = hypotenuse (twist .x) (twist .y);
       «vel_angular» = magnitude (twist .z);
     }
 

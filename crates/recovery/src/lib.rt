@@ -5,10 +5,10 @@ use controller_params::TRACKING_ERROR_THRESHOLD;
 use controller_params::TrackingErrors;
 use divergence::TrackingDivergenceState;
 use float_bits::abs;
+use float_hypot::hypot;
 use float_remainder::remainder;
 use linear::Vector4f;
 use linear::Vector6f;
-use planar::hypot_xy;
 use tracking_limits::any_exceeds;
 use tracking_limits::at_rest;
 use vectors::sub;
@@ -32,9 +32,9 @@ fn tracking_errors(traj_state: Vector6f, estimate: Vector6f) -> TrackingErrors
     let pose = sub(traj_state.pose, estimate.pose);
     let twist = sub(traj_state.twist, estimate.twist);
     TrackingErrors {
-        pos_linear: hypot_xy(pose),
+        pos_linear: hypot(pose.x, pose.y),
         pos_angular: abs(remainder(pose.z)),
-        vel_linear: hypot_xy(twist),
+        vel_linear: hypot(twist.x, twist.y),
         vel_angular: abs(twist.z),
     }
 }

@@ -1,9 +1,13 @@
 -- Stop, document 01, 'Steer'. Assumes nothing.
 use mathlib.Core.Bool.{Bool, cond, _&&_}
-use lib.Ieee.{Float, binary32, mul, div, lt}
+use lib.Ieee.{Float, binary32, add, mul, div, lt}
+use Rattle.float_root.specs.Root.{squareRoot}
 use Rattle.linear.specs.declared.Vector3f.{Vector3f}
 use Rattle.controller_params.specs.Params.{stopStateLinearSpeedLimit}
-use Rattle.planar.specs.Planar.{normXY}
+
+-- 'Stand-ins': `norm` is the root of x·x + y·y
+abbrev pub normXY : Vector3f → Float
+normXY v = squareRoot binary32 (add binary32 (mul binary32 (v .x) (v .x)) (mul binary32 (v .y) (v .y)))
 
 -- x and y times k
 abbrev pub scaledXY : Float → Vector3f → Vector3f

@@ -10,8 +10,8 @@ sub-requires c κs = search needs
 sub-requires-2 : tie.Need-sub-requires-2
 sub-requires-2 c κs = search needs
 
-hypot-xy-requires : tie.Need-hypot-xy-requires
-hypot-xy-requires c κs = search needs
+hypot-requires : tie.Need-hypot-requires
+hypot-requires c κs = search needs
 
 remainder-requires : tie.Need-remainder-requires
 remainder-requires c κs = search needs
@@ -19,8 +19,8 @@ remainder-requires c κs = search needs
 abs-requires : tie.Need-abs-requires
 abs-requires c κs = search needs
 
-hypot-xy-requires-2 : tie.Need-hypot-xy-requires-2
-hypot-xy-requires-2 c κs = search needs
+hypot-requires-2 : tie.Need-hypot-requires-2
+hypot-requires-2 c κs = search needs
 
 abs-requires-2 : tie.Need-abs-requires-2
 abs-requires-2 c κs = search needs
@@ -29,7 +29,7 @@ returns : tie.Need-returns
 unfolding trackingErrors
 returns c =
     let d = c .before .before .before in
-    simp (d .before .before .before .sub .ensures, d .before .before .sub2 .ensures, d .before .hypot-xy .ensures, d .remainder .ensures, c .before .before .abs .ensures, c .before .hypot-xy2 .ensures, c .abs2 .ensures)
+    simp (d .before .before .before .sub .ensures, d .before .before .sub2 .ensures, d .before .hypot .ensures, d .remainder .ensures, c .before .before .abs .ensures, c .before .hypot2 .ensures, c .abs2 .ensures)
 
 pub tracking-errors-spec : {M : Type 1} → statement M
 tracking-errors-spec =
@@ -37,9 +37,9 @@ tracking-errors-spec =
     (tie.spec
     sub-requires
     sub-requires-2
-    hypot-xy-requires
+    hypot-requires
     remainder-requires
     abs-requires
-    hypot-xy-requires-2
+    hypot-requires-2
     abs-requires-2
     returns)

@@ -1,2 +1,0 @@
--- What the contracts of `planar` cite. Assumes nothing.
-pub mod Planar
