@@ -1,5 +1,4 @@
--- Normal or recovering, and document 01's letters for them. Assumes nothing.
-use Prim.Native.Nat.{ℕ}
+-- Normal or recovering. Assumes nothing.
 use mathlib.Core.Bool.{Bool, true, false}
 use Rattle.divergence.specs.declared.TrackingDivergenceState.{TrackingDivergenceState}
 use Rattle.divergence.specs.declared.TrackingDivergenceState.the-variants.{Normal, Recovering}
@@ -8,8 +7,3 @@ use Rattle.divergence.specs.declared.TrackingDivergenceState.the-variant
 abbrev pub isRecovering : TrackingDivergenceState → Bool
 isRecovering Normal = false
 isRecovering Recovering = true
-
--- 'Cases': N or B (recovering), in ASCII
-abbrev pub divergenceLetter : TrackingDivergenceState → ℕ
-divergenceLetter Normal = 78
-divergenceLetter Recovering = 66

@@ -1,6 +1,6 @@
-// Normal or recovering: `TrackingDivergenceState`, and document 01's letters for it.
+// Normal or recovering: `TrackingDivergenceState`.
 ghost use mathlib.Core.Path.{_≡_};
-ghost use Rattle.divergence.specs.Divergence.{isRecovering, divergenceLetter};
+ghost use Rattle.divergence.specs.Divergence.{isRecovering};
 
 pub enum TrackingDivergenceState {
     Normal,
@@ -15,16 +15,6 @@ impl TrackingDivergenceState {
         match self {
             TrackingDivergenceState::Normal => false,
             TrackingDivergenceState::Recovering => true,
-        }
-    }
-
-    // Document 01's N, or B for recovering.
-    pub fn letter(self) -> u8
-        ensures { λ r. ⌜ r ≡ divergenceLetter self ⌝ }
-    {
-        match self {
-            TrackingDivergenceState::Normal => b'N',
-            TrackingDivergenceState::Recovering => b'B',
         }
     }
 }
