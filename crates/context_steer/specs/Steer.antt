@@ -2,10 +2,12 @@
 use mathlib.Core.Bool.{cond}
 use lib.Ieee.{Float}
 use Rattle.linear.specs.declared.Vector4f.{Vector4f}
+use Rattle.linear.specs.declared.Vector6f.{Vector6f}
 use Rattle.commands.specs.declared.ManeuverCommand.{ManeuverCommand}
 use Rattle.plan_memory.specs.declared.Sample.{Sample}
 use Rattle.plan_memory.specs.declared.HeldSample.{HeldSample}
 use Rattle.plan_memory.specs.declared.HeldSample.the-variants as Samples
+use Rattle.plan_memory.specs.declared.Memory.{Memory}
 use Rattle.plan_answer.specs.declared.PlanAnswer.{PlanAnswer}
 use Rattle.plan_answer.specs.declared.PlanAnswer.the-variants.{Hold, NoVision, Keep, NewPlan}
 use Rattle.plan_memory.specs.Memory.{afterTracking, heldOr}
@@ -16,6 +18,7 @@ use Rattle.setpoints.specs.Setpoints.{zeroSetpoints}
 use Rattle.tracking.specs.Setpoints.{trackingSetpoints}
 use Rattle.recovery.specs.Recovery.{recovery}
 use Rattle.control_context.specs.declared.ControlContext.{ControlContext}
+use Rattle.control_context.specs.declared.Divergence.{Divergence}
 use Rattle.control_context.specs.declared.Planned.{Planned}
 use Rattle.context_steer.specs.declared.Tracked.{Tracked}
 use Rattle.control_context.specs.Context.{contextReset}
@@ -54,6 +57,16 @@ followedBy (NewPlan seed) c cmd fresh next dt = tracked c fresh next cmd dt
 unfoldable pub followed : ControlContext → Planned → Sample → Sample → Float → Tracked
 followed c p fresh next dt = followedBy (p .answer) c (p .cmd) fresh next dt
 
+-- the sample that an answer tracks, if it tracks one
+abbrev pub sampleBy : PlanAnswer → HeldSample → Sample → HeldSample
+sampleBy Hold held fresh = Samples.Absent
+sampleBy NoVision held fresh = Samples.Absent
+sampleBy Keep held fresh = Samples.Held (heldOr held fresh)
+sampleBy (NewPlan seed) held fresh = Samples.Held fresh
+
+abbrev pub trackedSample : Planned → Memory → Sample → HeldSample
+trackedSample p m fresh = sampleBy (p .answer) (m .held) fresh
+
 -- ---- recovery
 
 -- another recovery state, and nothing else
@@ -69,8 +82,11 @@ inRecovery c r = record {
 }
 
 -- what recovery says of the sample held by now
+abbrev pub recoveryBy : Divergence → Memory → Vector6f → Vector4f → RecoveryAnswer
+recoveryBy d m estimate wheels = recovery (d .state) (heldState (m .held)) estimate wheels
+
 abbrev pub recoveryOf : ControlContext → Vector4f → RecoveryAnswer
-recoveryOf c wheels = recovery (c .divergence .state) (heldState (c .memory .held)) (c .«state_estimate») wheels
+recoveryOf c wheels = recoveryBy (c .divergence) (c .memory) (c .«state_estimate») wheels
 
 unfoldable pub recovered : ControlContext → Vector4f → ControlContext
 recovered c wheels = cond (recoveryOf c wheels .reset) (contextReset c) (inRecovery c (recoveryOf c wheels))

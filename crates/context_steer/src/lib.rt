@@ -1,16 +1,17 @@
 // Steer's work on a context: setpoints that track what plan decided, then recovery.
 ghost use mathlib.Core.Path.{_≡_};
-ghost use Rattle.context_steer.specs.Steer.{heldState, tracked, followed, recovered, steered};
-use commands::ManeuverCommand;
+ghost use Rattle.context_steer.specs.Steer.{trackedSample, recoveryBy, recovered, steered};
 use control_context::ControlContext;
 use control_context::Divergence;
 use control_context::Planned;
 use linear::Vector4f;
+use linear::Vector6f;
 use plan_answer::PlanAnswer;
 use plan_memory::HeldSample;
 use plan_memory::Memory;
 use plan_memory::Sample;
 use recovery::HeldState;
+use recovery::RecoveryAnswer;
 use recovery::update_tracking_divergence_recovery;
 use setpoints::ManeuverSetpoints;
 use setpoints::ZERO_SETPOINTS;
@@ -22,85 +23,66 @@ pub struct Tracked {
     pub context: ControlContext,
 }
 
-fn held_state(held: HeldSample) -> HeldState
-    ensures { λ r. ⌜ r ≡ heldState held ⌝ }
-{
-    match held {
-        HeldSample::Absent => {
-            return HeldState::Absent;
-        }
-        HeldSample::Held(sample) => {
-            let state = sample.state;
-            return HeldState::Held(state);
-        }
-    }
-}
-
-// Tracks a sample; the next one is held, and the command is the previous one.
-fn track(
-    mut context: ControlContext,
-    sample: Sample,
-    next: Sample,
-    cmd: ManeuverCommand,
-    dt: f32,
-) -> Tracked
-    ensures { λ r. ⌜ r ≡ tracked context sample next cmd dt ⌝ }
-{
-    let answer = calc_tracking_setpoints(
-        context.pose_pid,
-        context.state_estimate,
-        sample.state,
-        sample.accel,
-        dt,
-    );
-    let pid = answer.pid;
-    let setpoints = answer.setpoints;
-    context.pose_pid = pid;
-    context.memory = Memory::after_tracking(next, cmd);
-    Tracked { setpoints, context }
-}
-
-// What plan's answer asks for.
-fn follow(context: ControlContext, p: Planned, fresh: Sample, next: Sample, dt: f32) -> Tracked
-    ensures { λ r. ⌜ r ≡ followed context p fresh next dt ⌝ }
+// The sample that plan's answer tracks, if it tracks one.
+fn tracked_sample(p: Planned, memory: Memory, fresh: Sample) -> HeldSample
+    ensures { λ r. ⌜ r ≡ trackedSample p memory fresh ⌝ }
 {
     let answer = p.answer;
-    let cmd = p.cmd;
+    let held = memory.held;
     match answer {
         PlanAnswer::Hold => {
-            return Tracked {
-                setpoints: ZERO_SETPOINTS,
-                context,
-            };
+            return HeldSample::Absent;
         }
         PlanAnswer::NoVision => {
-            return Tracked {
-                setpoints: ZERO_SETPOINTS,
-                context,
-            };
+            return HeldSample::Absent;
         }
         PlanAnswer::Keep => {
-            let memory = context.memory;
-            let held = memory.held;
-            return track(context, held.held_or(fresh), next, cmd, dt);
+            return HeldSample::Held(held.held_or(fresh));
         }
         PlanAnswer::NewPlan(seed) => {
-            return track(context, fresh, next, cmd, dt);
+            return HeldSample::Held(fresh);
         }
     }
 }
 
-// Recovery, judged on the sample that is held by now.
+// What recovery says of the sample that is held by now.
+fn recovery_of(
+    divergence: Divergence,
+    memory: Memory,
+    state_estimate: Vector6f,
+    wheel_vel_meas: Vector4f,
+) -> RecoveryAnswer
+    ensures { λ r. ⌜ r ≡ recoveryBy divergence memory «state_estimate» «wheel_vel_meas» ⌝ }
+{
+    let held = memory.held;
+    let state = divergence.state;
+    match held {
+        HeldSample::Absent => {
+            return update_tracking_divergence_recovery(
+                state,
+                HeldState::Absent,
+                state_estimate,
+                wheel_vel_meas,
+            );
+        }
+        HeldSample::Held(sample) => {
+            let held_state = sample.state;
+            return update_tracking_divergence_recovery(
+                state,
+                HeldState::Held(held_state),
+                state_estimate,
+                wheel_vel_meas,
+            );
+        }
+    }
+}
+
 fn recover(mut context: ControlContext, wheel_vel_meas: Vector4f) -> ControlContext
     ensures { λ r. ⌜ r ≡ recovered context «wheel_vel_meas» ⌝ }
 {
-    let divergence = context.divergence;
-    let state = divergence.state;
-    let memory = context.memory;
-    let held = memory.held;
-    let answer = update_tracking_divergence_recovery(
-        state,
-        held_state(held),
+    let answer = recovery_of(
+        context.divergence,
+        context.memory,
         context.state_estimate,
         wheel_vel_meas,
     );
@@ -113,8 +95,9 @@ fn recover(mut context: ControlContext, wheel_vel_meas: Vector4f) -> ControlCont
     context
 }
 
+// Setpoints, then recovery. After tracking the next sample is held, and the command is the previous one.
 pub fn steer(
-    context: ControlContext,
+    mut context: ControlContext,
     p: Planned,
     fresh: Sample,
     next: Sample,
@@ -123,7 +106,31 @@ pub fn steer(
 ) -> Tracked
     ensures { λ r. ⌜ r ≡ steered context p fresh next «wheel_vel_meas» dt ⌝ }
 {
-    let mut t = follow(context, p, fresh, next, dt);
-    t.context = recover(t.context, wheel_vel_meas);
-    t
+    let tracked = tracked_sample(p, context.memory, fresh);
+    match tracked {
+        HeldSample::Absent => {
+            return Tracked {
+                setpoints: ZERO_SETPOINTS,
+                context: recover(context, wheel_vel_meas),
+            };
+        }
+        HeldSample::Held(sample) => {
+            let answer = calc_tracking_setpoints(
+                context.pose_pid,
+                context.state_estimate,
+                sample.state,
+                sample.accel,
+                dt,
+            );
+            let setpoints = answer.setpoints;
+            let pid = answer.pid;
+            context.pose_pid = pid;
+            let cmd = p.cmd;
+            context.memory = Memory::after_tracking(next, cmd);
+            return Tracked {
+                setpoints,
+                context: recover(context, wheel_vel_meas),
+            };
+        }
+    }
 }

@@ -1,6 +1,6 @@
 // The gate of `update_state_estimate`: which sightings are taken.
 ghost use mathlib.Core.Path.{_≡_};
-ghost use Rattle.gate.specs.Gate.{seedingJudged, trackingJudged, quiet, judged};
+ghost use Rattle.gate.specs.Gate.{seedingJudged, trackingJudged, judged};
 use controller_params::VISION_GATE_BASE_RADIUS_M;
 use controller_params::VISION_GATE_EXPAND_RATE_M_PER_S;
 use controller_params::VISION_SEED_SAMPLES;
@@ -76,39 +76,32 @@ fn judge_tracking(t: f32, dist: f32, dt: f32) -> Judgement
 }
 
 impl VisionGateState {
-    // A tick without a sighting: the radius of a tracking gate grows on.
-    fn wait(self, dt: f32) -> VisionGateState
-        ensures { λ r. ⌜ r ≡ quiet self dt ⌝ }
-    {
-        match self {
-            VisionGateState::Seeding(s) => {
-                return VisionGateState::Seeding(s);
-            }
-            VisionGateState::Tracking(t) => {
-                return VisionGateState::Tracking(t + dt);
-            }
-        }
-    }
-
-    // The judgement of one tick; `seen` says whether there is a sighting.
+    // The judgement of one tick; `seen` says whether there is a sighting. Without one the radius of a
+    // tracking gate grows on.
     pub fn judge(self, seen: bool, sighting: Vector3f, predicted: Vector6f, dt: f32) -> Judgement
         ensures { λ r. ⌜ r ≡ judged self seen sighting predicted dt ⌝ }
     {
-        if seen {
-            match self {
-                VisionGateState::Seeding(s) => {
+        match self {
+            VisionGateState::Seeding(s) => {
+                if seen {
                     return judge_seeding(s.gather(sighting));
                 }
-                VisionGateState::Tracking(t) => {
+                return Judgement {
+                    action: GateAction::NoVision,
+                    gate: VisionGateState::Seeding(s),
+                };
+            }
+            VisionGateState::Tracking(t) => {
+                if seen {
                     let x = sighting.x - predicted.pose.x;
                     let y = sighting.y - predicted.pose.y;
                     return judge_tracking(t, hypot(x, y), dt);
                 }
+                return Judgement {
+                    action: GateAction::NoVision,
+                    gate: VisionGateState::Tracking(t + dt),
+                };
             }
-        }
-        Judgement {
-            action: GateAction::NoVision,
-            gate: self.wait(dt),
         }
     }
 }

@@ -1,14 +1,14 @@
 // Rotation about the vertical, by a given cosine and sine.
 ghost use mathlib.Core.Path.{_≡_};
-ghost use Rattle.matrices.specs.Rotation.{rotation, toGlobal, toLocal};
+ghost use Rattle.matrices.specs.Rotation.{toGlobal, toLocal};
 use crate::Matrix3;
 use linear::Vector3f;
 
-// `z_rotation_mat` of the angle with this cosine and sine.
-fn z_rotation_mat(c: f32, s: f32) -> Matrix3
-    ensures { λ r. ⌜ r ≡ rotation c s ⌝ }
+// v turned from local axes to global ones, by `z_rotation_mat` of the angle with this cosine and sine.
+pub fn rotate_to_global(c: f32, s: f32, v: Vector3f) -> Vector3f
+    ensures { λ r. ⌜ r ≡ toGlobal c s v ⌝ }
 {
-    Matrix3 {
+    let z_rotation_mat = Matrix3 {
         r0: Vector3f {
             x: c,
             y: -s,
@@ -20,19 +20,13 @@ fn z_rotation_mat(c: f32, s: f32) -> Matrix3
             y: 0.0,
             z: 1.0,
         },
-    }
-}
-
-// v turned from local axes to global ones.
-pub fn rotate_to_global(c: f32, s: f32, v: Vector3f) -> Vector3f
-    ensures { λ r. ⌜ r ≡ toGlobal c s v ⌝ }
-{
-    z_rotation_mat(c, s).mul(v)
+    };
+    z_rotation_mat.mul(v)
 }
 
 // v turned from global axes to local ones: by the opposite angle, whose sine is -s.
 pub fn rotate_to_local(c: f32, s: f32, v: Vector3f) -> Vector3f
     ensures { λ r. ⌜ r ≡ toLocal c s v ⌝ }
 {
-    z_rotation_mat(c, -s).mul(v)
+    rotate_to_global(c, -s, v)
 }

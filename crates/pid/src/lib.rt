@@ -1,6 +1,6 @@
 // pid.rs: a PID controller by value, for one axis.
 ghost use mathlib.Core.Path.{_≡_};
-ghost use Rattle.pid.specs.Axis.{antiJitter, limited, response, calculated, calculatedWithDerivative, resetOf, newController};
+ghost use Rattle.pid.specs.Axis.{antiJitter, limited, calculated, calculatedWithDerivative, resetOf, newController};
 use controller_params::PidGains;
 use float_bits::abs;
 use float_clamp::clamp;
@@ -71,13 +71,27 @@ impl PidController {
         }
     }
 
-    // What both calculations do with an error and its derivative.
-    fn respond(mut self, error: f32, derivative: f32, dt_s: f32) -> PidAnswer
-        ensures { λ r. ⌜ r ≡ response self error derivative «dt_s» ⌝ }
+    pub fn calculate(self, setpoint: f32, process_variable: f32, dt_s: f32) -> PidAnswer
+        ensures { λ r. ⌜ r ≡ calculated self setpoint «process_variable» «dt_s» ⌝ }
     {
-        let gain = self.gain;
+        let de_dt = (setpoint - process_variable - self.prev_error) / dt_s;
+        self.calculate_with_derivative(setpoint, process_variable, de_dt, dt_s)
+    }
+
+    // Like `calculate`, with the derivative from outside.
+    pub fn calculate_with_derivative(
+        mut self,
+        setpoint: f32,
+        process_variable: f32,
+        derivative: f32,
+        dt_s: f32,
+    ) -> PidAnswer
+        ensures { λ r. ⌜ r ≡ calculatedWithDerivative self setpoint «process_variable» derivative «dt_s» ⌝ }
+    {
         let thresh = self.anti_jitter_thresh;
         let limits = self.output_limits;
+        let gain = self.gain;
+        let error = setpoint - process_variable;
         let sum = self.integrated_error + error * dt_s;
         let integrated = clamp(sum, gain.ki_err_min, gain.ki_err_max);
         let pid = gain.kp * error + gain.ki * integrated + gain.kd * derivative;
@@ -88,27 +102,6 @@ impl PidController {
             output,
             controller: self,
         }
-    }
-
-    pub fn calculate(self, setpoint: f32, process_variable: f32, dt_s: f32) -> PidAnswer
-        ensures { λ r. ⌜ r ≡ calculated self setpoint «process_variable» «dt_s» ⌝ }
-    {
-        let error = setpoint - process_variable;
-        let de_dt = (error - self.prev_error) / dt_s;
-        self.respond(error, de_dt, dt_s)
-    }
-
-    // Like `calculate`, with the derivative from outside.
-    pub fn calculate_with_derivative(
-        self,
-        setpoint: f32,
-        process_variable: f32,
-        derivative: f32,
-        dt_s: f32,
-    ) -> PidAnswer
-        ensures { λ r. ⌜ r ≡ calculatedWithDerivative self setpoint «process_variable» derivative «dt_s» ⌝ }
-    {
-        self.respond(setpoint - process_variable, derivative, dt_s)
     }
 
     pub fn reset(mut self) -> PidController

@@ -1,15 +1,15 @@
 -- `pid::PidController::calculate` meets its contract. Assumes nothing.
 use borrow.Author.Needs.{needs}
-use Rattle.pid.specs.Axis.{calculated}
+use Rattle.pid.specs.Axis.{calculated, calculatedWithDerivative}
 use Rattle.pid.proofs.PidController.calculate.Statement.{statement}
 use Rattle.pid.proofs.PidController.calculate.Tie as tie
 
-respond-requires : tie.Need-respond-requires
-respond-requires c κs = search needs
+calculate-with-derivative-requires : tie.Need-calculate-with-derivative-requires
+calculate-with-derivative-requires c κs = search needs
 
 returns : tie.Need-returns
-unfolding calculated
-returns c = c .respond .ensures
+unfolding calculated calculatedWithDerivative
+returns c = c .calculate-with-derivative .ensures
 
 pub calculate-spec : {M : Type 1} → statement M
-calculate-spec = tie.close (tie.spec respond-requires returns)
+calculate-spec = tie.close (tie.spec calculate-with-derivative-requires returns)
