@@ -19,14 +19,19 @@ fn digit(refusal: u8) -> u8 {
     }
 }
 
-// How an empty pass answers a block: a dot for a tick, or the refusal.
+// A line's glyph: a dot for a tick, or the refusal.
+fn glyph_of(line: Line) -> u8 {
+    match line {
+        Line::Tick(_) => b'.',
+        Line::Refused(r) => digit(r.refusal),
+    }
+}
+
+// How an empty pass answers a block.
 fn glyph(block: &[u8]) -> u8 {
     let driven = drive(Pass::Empty, block);
     let line = driven.line;
-    match line {
-        Line::Tick(t) => b'.',
-        Line::Refused(r) => digit(r.refusal),
-    }
+    glyph_of(line)
 }
 
 // Puts a byte, where there is its place.

@@ -1,2 +1,2 @@
--- What the contract of `block_order` cites. Assumes nothing.
+-- What the contracts of `block_order` cite. Assumes nothing.
 pub mod Order

@@ -26,15 +26,15 @@ pub(crate) fn drive_next(pass: Pass, block: &[u8], shown: bool) -> Pass {
     let mut line = [0; 128];
     let w = drive_block(pass, block, &mut line);
     let len = w.len;
-    let mut next = w.pass;
+    let pass = w.pass;
     if shown | w.refused {
         io::write_all(STDOUT_FILENO, &line[..len]);
     }
     if w.refused {
-        print_last(next);
-        next = Pass::Empty;
+        print_last(pass);
+        return Pass::Empty;
     }
-    next
+    pass
 }
 
 fn drive_passes() {

@@ -10,10 +10,11 @@ use lib.ListN.{length, take, drop, length-append, length-take, length-drop, take
 use lib.Seq.{take-append-seam, drop-append-seam, drop-append-add, drop-drop}
 use Rattle.text_pieces.specs.Puts.{Within}
 use Rattle.text_pieces.proofs.Placing.{within}
+use Rattle.block_order.specs.Order.{goesOn}
 use Rattle.drive_pass.specs.declared.Pass.{Pass}
 use Rattle.driven_text.specs.declared.Written.{Written}
 use Rattle.drive_text.specs.Written.{written, blockText}
-use Rattle.drive_text.specs.Batch.{firstBlock, Batched, oneBlock, then, batchOf, textOf, answerOf, nextOf, goesOn}
+use Rattle.drive_text.specs.Batch.{firstBlock, Batched, oneBlock, then, batchOf, textOf, answerOf, nextOf}
 use Rattle.drive_text.proofs.Batches.{one-more, stays, stays-over, textOf-append}
 
 -- answer and text are those of the batch of i blocks; the bytes from start on are left
@@ -46,13 +47,13 @@ module _ (t : Batched) (block out out₀ : List ℕ) (o : t .over ≡ false) whe
   unfolding textOf blockText
   text-more = rw o (textOf-append (t .lines) (oneBlock (t .pass) block .lines) ∙ rw append-nil refl)
 
-  answer-more : nextOf (answerOf t) block ≡ answerOf (then t (oneBlock (t .pass) block))
+  answer-more : nextOf (answerOf t .pass) (answerOf t .len) block ≡ answerOf (then t (oneBlock (t .pass) block))
   unfolding answerOf nextOf written
   answer-more = rw (text-more, o, length-append) refl
 
   out-more : out ≡ textOf (t .lines) ++ drop (answerOf t .len) out₀
-      → take (answerOf t .len) out ++ blockText (answerOf t .pass) block ++ drop (nextOf (answerOf t) block .len) out
-      ≡ textOf (then t (oneBlock (t .pass) block) .lines) ++ drop (nextOf (answerOf t) block .len) out₀
+      → take (answerOf t .len) out ++ blockText (answerOf t .pass) block ++ drop (nextOf (answerOf t .pass) (answerOf t .len) block .len) out
+      ≡ textOf (then t (oneBlock (t .pass) block) .lines) ++ drop (nextOf (answerOf t .pass) (answerOf t .len) block .len) out₀
   unfolding answerOf nextOf written
   out-more e =
       let s = textOf (t .lines) in
@@ -69,7 +70,7 @@ module _ (p : Pass) (bytes out₀ out : List ℕ) (i start end : ℕ) (w : Writt
   ahead = length-drop start bytes
 
   pub turn : (r : Written) (after : List ℕ) → w .refused ≡ false → start < length bytes → end ≡ start + min 512 (length bytes - start) → end ≤ length bytes
-      → r ≡ nextOf w (take (end - start) (drop start bytes))
+      → r ≡ nextOf (w .pass) (w .len) (take (end - start) (drop start bytes))
       → after ≡ take (w .len) out ++ blockText (w .pass) (take (end - start) (drop start bytes)) ++ drop (r .len) out
       → r .len ≤ w .len + 128 → length after ≡ length out → Going p bytes out₀ (i + 1) end r after
   turn r after o h e k a u s l =

@@ -1,8 +1,7 @@
 -- A run of bytes, driven block by block: document 01, 'Cases', program `drive`. Assumes nothing.
 use Prim.Native.Nat.{ℕ, zero, suc, _+_, _/_}
-use mathlib.Core.Bool.{Bool, false, cond, not, _&&_}
+use mathlib.Core.Bool.{Bool, false, cond}
 use mathlib.Core.List.{List, [], _∷_, _++_}
-use lib.Dec.{ltb}
 use lib.ListN.{length, take, drop}
 use Rattle.line_text.specs.declared.Line.{Line}
 use Rattle.line_text.specs.Text.{lineText}
@@ -61,10 +60,6 @@ batchInto out p bytes = batchOf (length out / 128) p bytes
 unfoldable pub answerOf : Batched → Written
 answerOf t = record { pass = t .pass; len = length (textOf (t .lines)); refused = t .over }
 
--- one block more
-unfoldable pub nextOf : Written → List ℕ → Written
-nextOf w block = record { pass = written (w .pass) block .pass; len = w .len + written (w .pass) block .len; refused = written (w .pass) block .refused }
-
--- one more block is driven: its line has room, none was refused, and bytes are left
-unfoldable pub goesOn : ℕ → ℕ → Bool → ℕ → ℕ → Bool
-goesOn i room refused start len = (ltb i room && not refused) && ltb start len
+-- one block more, its line behind n bytes
+unfoldable pub nextOf : Pass → ℕ → List ℕ → Written
+nextOf p n block = record { pass = written p block .pass; len = n + written p block .len; refused = written p block .refused }

@@ -5,7 +5,8 @@ ghost use Prim.Native.Nat.{_+_, _-_, _≤_, min};
 ghost use lib.ListN.{length, take, drop};
 ghost use Rattle.text_pieces.specs.Puts.{Within};
 ghost use Rattle.drive_text.specs.Written.{written, blockText};
-ghost use Rattle.drive_text.specs.Batch.{textOf, batchInto, answerOf, nextOf, goesOn};
+ghost use Rattle.drive_text.specs.Batch.{textOf, batchInto, answerOf, nextOf};
+use block_order::goes_on;
 use drive_blocks::drive;
 use drive_pass::Pass;
 use driven_text::Written;
@@ -22,14 +23,13 @@ pub fn drive_block(pass: Pass, block: &[u8], buf: &mut [u8; 128]) -> Written
 }
 
 // Drives one block more, its line behind the text that is there.
-fn drive_next(done: Written, block: &[u8], out: &mut [u8]) -> Written
-    requires { ⌜ done .len + 128 ≤ length (now out) ⌝ }
-    ensures { λ r. ⌜ r ≡ nextOf done (now (block .entry)) ⌝ }
-    ensures { λ r. ⌜ now (out .exit) ≡ take (done .len) (now (out .entry)) ++ blockText (done .pass) (now (block .entry)) ++ drop (r .len) (now (out .entry)) ⌝ }
-    ensures { λ r. ⌜ r .len ≤ done .len + 128 ⌝ }
+fn drive_next(pass: Pass, at: usize, block: &[u8], out: &mut [u8]) -> Written
+    requires { ⌜ at + 128 ≤ length (now out) ⌝ }
+    ensures { λ r. ⌜ r ≡ nextOf pass at (now (block .entry)) ⌝ }
+    ensures { λ r. ⌜ now (out .exit) ≡ take at (now (out .entry)) ++ blockText pass (now (block .entry)) ++ drop (r .len) (now (out .entry)) ⌝ }
+    ensures { λ r. ⌜ r .len ≤ at + 128 ⌝ }
 {
-    let pass = done.pass;
-    write_driven(drive(pass, block), done.len, out)
+    write_driven(drive(pass, block), at, out)
 }
 
 // Where the block from start on ends; the last one may be short.
@@ -38,13 +38,6 @@ fn block_end(start: usize, len: usize) -> usize
     ensures { λ r. ⌜ (start ≤ r) × (r ≤ len) × (r ≡ start + min 512 (len - start)) ⌝ }
 {
     if len - start < 512 { len } else { start + 512 }
-}
-
-// Whether one more block is driven: its line has room, none was refused, and bytes are left.
-fn goes_on(i: usize, room: usize, refused: bool, start: usize, len: usize) -> bool
-    ensures { λ r. ⌜ r ≡ goesOn i room refused start len ⌝ }
-{
-    (i < room) & !refused & (start < len)
 }
 
 // Drives blocks of 512 bytes to their end or to the first refusal, as many as `out` has room for at
@@ -65,7 +58,8 @@ pub fn drive_batch(pass: Pass, blocks: &[u8], out: &mut [u8]) -> Written
     let mut start: usize = 0;
     while goes_on(i, room, w.refused, start, blocks.len()) {
         let end = block_end(start, blocks.len());
-        w = drive_next(w, &blocks[start..end], out);
+        let pass = w.pass;
+        w = drive_next(pass, w.len, &blocks[start..end], out);
         start = end;
         i = i + 1;
     }

@@ -1,9 +1,9 @@
 -- The lines of program `drive` but the last, document 01, 'Cases', as bytes in ASCII. Assumes nothing.
 use Prim.Native.Nat.{ℕ}
-use mathlib.Core.Bool.{cond}
 use mathlib.Core.List.{List, [], _∷_, _++_}
 use Rattle.text_pieces.specs.Pieces.{decimal, field, newline}
 use Rattle.wheels_text.specs.Wheels.{wheelsText}
+use Rattle.marks_text.specs.Marks.{marksText}
 use Rattle.line_text.specs.declared.Ending.{Ending}
 use Rattle.line_text.specs.declared.Ending.the-variants.{Wheels, Failed}
 use Rattle.line_text.specs.declared.TickLine.{TickLine}
@@ -24,9 +24,7 @@ endingText (Failed refusal) = failedText refusal
 unfoldable pub tickText : TickLine → List ℕ
 tickText t =
     decimal (t .number)
-    ++ field (t .letter ∷ [])
-    ++ field (cond (t .active) 86 45 ∷ [])
-    ++ field (cond (t .recovering) 66 78 ∷ [])
+    ++ marksText (t .letter) (t .active) (t .recovering)
     ++ endingText (t .ending)
     ++ newline
 

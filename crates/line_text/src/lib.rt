@@ -1,14 +1,13 @@
 // The text of program `drive` but its last line: one line for each tick or refused block. A line goes
 // into a lent array that can't be too short; what stands behind it there stays.
 ghost use Prim.Native.Nat.{_≤_};
-ghost use mathlib.Core.Bool.{cond};
 ghost use mathlib.Core.Path.{_≡_};
-ghost use mathlib.Core.List.{[], _∷_, _++_};
+ghost use mathlib.Core.List.{_++_};
 ghost use lib.ListN.{length, drop};
-ghost use Rattle.text_pieces.specs.Pieces.{field};
 ghost use Rattle.text_pieces.specs.Puts.{Puts, Within};
-ghost use Rattle.line_text.specs.Text.{endingText, failedText, lineText, refusedText, tickText};
+ghost use Rattle.line_text.specs.Text.{endingText, lineText, refusedText, tickText};
 use linear::Vector4f;
+use marks_text::put_marks;
 use text_pieces::put_byte;
 use text_pieces::put_decimal;
 use text_pieces::put_number;
@@ -62,9 +61,7 @@ fn write_tick(buf: &mut [u8; 128], t: TickLine) -> usize
     ensures { λ _. ⌜ length (now (buf .exit)) ≡ 128 ⌝ }
 {
     let at = put_decimal(buf, 0, t.number);
-    let at = put_field(buf, at, t.letter);
-    let at = put_field(buf, at, mark(t.active, b'V', b'-'));
-    let at = put_field(buf, at, mark(t.recovering, b'B', b'N'));
+    let at = put_marks(buf, at, t.letter, t.active, t.recovering);
     let ending = t.ending;
     let at = put_ending(buf, at, ending);
     put_byte(buf, at, b'\n')
@@ -76,40 +73,22 @@ fn write_refused(buf: &mut [u8; 128], f: RefusedLine) -> usize
     ensures { λ _. ⌜ length (now (buf .exit)) ≡ 128 ⌝ }
 {
     let at = put_decimal(buf, 0, f.number);
-    let at = put_field(buf, at, b'!');
+    let at = put_byte(buf, at, b' ');
+    let at = put_byte(buf, at, b'!');
     let at = put_number(buf, at, f.refusal as u32);
     put_byte(buf, at, b'\n')
 }
 
-// What ends a tick's line.
+// What ends a tick's line: the wheel speeds, or `E` and the refusal.
 fn put_ending(buf: &mut [u8; 128], at: usize, ending: Ending) -> usize
     ensures { λ r. ⌜ Puts (now (buf .entry)) at (endingText ending) (now (buf .exit)) r ⌝ }
 {
     match ending {
         Ending::Wheels(v) => put_wheels(buf, at, v),
-        Ending::Failed(refusal) => put_failed(buf, at, refusal),
+        Ending::Failed(refusal) => {
+            let at = put_byte(buf, at, b' ');
+            let at = put_byte(buf, at, b'E');
+            put_decimal(buf, at, refusal as u32)
+        }
     }
-}
-
-// `E` and the refusal.
-fn put_failed(buf: &mut [u8; 128], at: usize, refusal: u8) -> usize
-    ensures { λ r. ⌜ Puts (now (buf .entry)) at (failedText refusal) (now (buf .exit)) r ⌝ }
-{
-    let at = put_field(buf, at, b'E');
-    put_decimal(buf, at, refusal as u32)
-}
-
-// A space and a byte.
-fn put_field(buf: &mut [u8; 128], at: usize, byte: u8) -> usize
-    ensures { λ r. ⌜ Puts (now (buf .entry)) at (field (byte ∷ [])) (now (buf .exit)) r ⌝ }
-{
-    let at = put_byte(buf, at, b' ');
-    put_byte(buf, at, byte)
-}
-
-// The letter of a mark that is on or off.
-fn mark(on: bool, yes: u8, no: u8) -> u8
-    ensures { λ r. ⌜ r ≡ cond on yes no ⌝ }
-{
-    if on { yes } else { no }
 }

@@ -1,8 +1,8 @@
--- `line_text::put_field` meets its contract: a space, and the byte behind it. Assumes nothing.
+-- `marks_text::put_field` meets its contract: a space, and the byte behind it. Assumes nothing.
 use Rattle.text_pieces.proofs.Placing.{then}
 use borrow.Author.Needs.{needs}
-use Rattle.line_text.proofs.put_field.Statement.{statement}
-use Rattle.line_text.proofs.put_field.Tie as tie
+use Rattle.marks_text.proofs.put_field.Statement.{statement}
+use Rattle.marks_text.proofs.put_field.Tie as tie
 
 put-byte-requires : tie.Need-put-byte-requires
 put-byte-requires c κs = search needs

@@ -1,0 +1,2 @@
+-- What the contract of `marks_text` cites. Assumes nothing.
+pub mod Marks
