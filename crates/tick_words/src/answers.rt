@@ -1,15 +1,13 @@
 // The words of the four answers; word 2 has the number of a refusal.
 use crate::block::refuse;
 use crate::put::mark;
-use crate::put::put_vec3;
-use crate::put::put_vec4;
-use crate::put::put_vec6;
+use crate::put::put;
 use body_controller::FinishAnswer;
 use body_controller::PlanCallAnswer;
 use body_controller::SightAnswer;
 use body_controller::SteerAnswer;
-use float_bits::to_bits;
 use gate_action::GateAction;
+use linear::Vector6f;
 use plan_answer::PlanAnswer;
 use tick_parts::Outputs;
 
@@ -32,35 +30,70 @@ pub(crate) fn put_sight(words: &mut [u32; 96], answer: SightAnswer) {
         SightAnswer::Accepted(s) => {
             let action = s.action;
             words[1] = outcome(action);
-            put_vec3(words, 3, s.measurement.vision_pose);
-            put_vec4(words, 6, s.measurement.wheel_vel);
-            words[10] = to_bits(s.measurement.gyro_theta);
+            let m = s.measurement;
+            let pose = m.vision_pose;
+            let wheels = m.wheel_vel;
+            put(
+                words,
+                3,
+                &[
+                    pose.x,
+                    pose.y,
+                    pose.z,
+                    wheels.x,
+                    wheels.y,
+                    wheels.z,
+                    wheels.w,
+                    m.gyro_theta,
+                ],
+            );
             words[11] = mark(s.effective_vision_update);
-            put_vec6(words, 12, s.state_prediction);
+            let p = s.state_prediction;
+            put(
+                words,
+                12,
+                &[
+                    p.pose.x,
+                    p.pose.y,
+                    p.pose.z,
+                    p.twist.x,
+                    p.twist.y,
+                    p.twist.z,
+                ],
+            );
         }
         SightAnswer::Refused(r) => refuse(words, r.number()),
     }
 }
 
-fn put_planned(words: &mut [u32; 96], answer: PlanAnswer) {
-    match answer {
-        PlanAnswer::Hold => {}
-        PlanAnswer::NoVision => {
-            words[18] = 1;
-        }
-        PlanAnswer::Keep => {
-            words[18] = 2;
-        }
-        PlanAnswer::NewPlan(seed) => {
-            words[18] = 3;
-            put_vec6(words, 19, seed);
-        }
-    }
+fn put_seed(words: &mut [u32; 96], s: Vector6f) {
+    words[18] = 3;
+    put(
+        words,
+        19,
+        &[
+            s.pose.x,
+            s.pose.y,
+            s.pose.z,
+            s.twist.x,
+            s.twist.y,
+            s.twist.z,
+        ],
+    );
 }
 
 pub(crate) fn put_plan(words: &mut [u32; 96], answer: PlanCallAnswer) {
     match answer {
-        PlanCallAnswer::Accepted(a) => put_planned(words, a),
+        PlanCallAnswer::Accepted(planned) => match planned {
+            PlanAnswer::Hold => {}
+            PlanAnswer::NoVision => {
+                words[18] = 1;
+            }
+            PlanAnswer::Keep => {
+                words[18] = 2;
+            }
+            PlanAnswer::NewPlan(s) => put_seed(words, s),
+        },
         PlanCallAnswer::Refused(r) => {
             words[2] = r.number() as u32;
             words[18] = 4;
@@ -70,7 +103,7 @@ pub(crate) fn put_plan(words: &mut [u32; 96], answer: PlanCallAnswer) {
 
 pub(crate) fn put_steer(words: &mut [u32; 96], answer: SteerAnswer) {
     match answer {
-        SteerAnswer::Accepted(twist) => put_vec3(words, 25, twist),
+        SteerAnswer::Accepted(t) => put(words, 25, &[t.x, t.y, t.z]),
         SteerAnswer::Refused(r) => {
             words[2] = r.number() as u32;
         }
@@ -78,13 +111,37 @@ pub(crate) fn put_steer(words: &mut [u32; 96], answer: SteerAnswer) {
 }
 
 pub(crate) fn put_outputs(words: &mut [u32; 96], o: Outputs) {
-    put_vec3(words, 28, o.body_twist_out);
-    put_vec3(words, 31, o.body_accel_out);
-    put_vec3(words, 34, o.body_accel_out_fric_comp);
-    put_vec4(words, 37, o.wheel_vel_out);
-    put_vec4(words, 41, o.wheel_torque_out);
+    let twist = o.body_twist_out;
+    let accel = o.body_accel_out;
+    let fric_comp = o.body_accel_out_fric_comp;
+    let vel = o.wheel_vel_out;
+    let torque = o.wheel_torque_out;
+    put(
+        words,
+        28,
+        &[
+            twist.x,
+            twist.y,
+            twist.z,
+            accel.x,
+            accel.y,
+            accel.z,
+            fric_comp.x,
+            fric_comp.y,
+            fric_comp.z,
+            vel.x,
+            vel.y,
+            vel.z,
+            vel.w,
+            torque.x,
+            torque.y,
+            torque.z,
+            torque.w,
+        ],
+    );
 }
 
+// Finish is turned away behind another call alone, whose refusal word 2 has.
 pub(crate) fn put_finish(words: &mut [u32; 96], answer: FinishAnswer) {
     match answer {
         FinishAnswer::Accepted(f) => {
@@ -93,8 +150,6 @@ pub(crate) fn put_finish(words: &mut [u32; 96], answer: FinishAnswer) {
             words[46] = mark(f.accel_clamped);
             words[47] = mark(f.wheels_disabled);
         }
-        FinishAnswer::Refused(r) => {
-            words[2] = r.number() as u32;
-        }
+        FinishAnswer::Refused(r) => {}
     }
 }

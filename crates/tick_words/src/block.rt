@@ -1,13 +1,17 @@
 // A block's words, and the controller after it.
 use crate::calls::run_calls;
 use crate::state::put_state;
+use block_order::order_refusal;
+use block_tests::Tested;
+use block_tests::block_tested;
 use block_words::word_at;
 use body_controller::BodyController;
 use body_controller::NewAnswer;
-use tick_block::BlockAnswer;
-use tick_block::read;
+use tick_length::TickLength;
 
-// Where a block has its k.
+// Where a block has its number and its k.
+const NUMBER: usize = 1;
+
 const TICK_LENGTH: usize = 105;
 
 // Word 1 of a refused block, behind the eight outcomes.
@@ -18,19 +22,21 @@ pub(crate) fn refuse(words: &mut [u32; 96], refusal: u8) {
     words[2] = refusal as u32;
 }
 
-fn read_and_run(mut c: BodyController, block: &[u8], words: &mut [u32; 96]) -> BodyController {
-    match read(block) {
-        BlockAnswer::Read(b) => {
-            c = run_calls(c, b, words);
+// The tests before the calls; a block in order is of the controller's k, and has the next tick's
+// number, which is word 0.
+fn test_block(block: &[u8], own: TickLength, words: &mut [u32; 96]) {
+    match block_tested(block) {
+        Tested::Passed(tick) => {
+            let refusal = order_refusal(tick, own, word_at(block, NUMBER), words[0]);
+            if refusal != 0 {
+                refuse(words, refusal);
+            }
         }
-        BlockAnswer::Refused(r) => {
-            refuse(words, r.number());
-        }
+        Tested::Refused(r) => refuse(words, r.number()),
     }
-    c
 }
 
-// The controller that a pass begins with. A k that makes none is refused where the block is read.
+// The controller that a pass begins with. A k that makes none is refused where the block is tested.
 fn begin(mut c: BodyController, k: u32) -> BodyController {
     match BodyController::new(k) {
         NewAnswer::Made(new) => {
@@ -54,7 +60,8 @@ pub(crate) fn run_block(
     } else {
         c = begin(c, word_at(block, TICK_LENGTH));
     }
-    c = read_and_run(c, block, words);
+    test_block(block, c.tick_length(), words);
+    c = run_calls(c, block, words);
     let refused = words[1] == REFUSED;
     if refused {
         c = c.reset();

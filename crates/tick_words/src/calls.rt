@@ -1,74 +1,57 @@
-// A tick's four calls, with the words of their answers and of what they leave. Word 2 has the
-// refusal of the call that was turned away, if one was.
+// A tick's four calls, with the words of their answers. Word 2 has the refusal of the call that was
+// turned away, if one was.
 use crate::answers::put_finish;
 use crate::answers::put_plan;
 use crate::answers::put_sight;
 use crate::answers::put_steer;
-use crate::block::refuse;
 use body_controller::BodyController;
-use call_inputs::FinishInput;
-use call_inputs::PlanInput;
-use call_inputs::SightInput;
-use call_inputs::SteerInput;
-use tick_block::TickBlock;
-use tick_length::TickLength;
+use sight_inputs::plan_input;
+use sight_inputs::sight_input;
+use steer_inputs::finish_input;
+use steer_inputs::steer_input;
 
-fn sight(c: BodyController, i: SightInput, words: &mut [u32; 96]) -> BodyController {
-    let result = c.sight(i);
+fn sight(c: BodyController, block: &[u8], words: &mut [u32; 96]) -> BodyController {
+    let result = c.sight(sight_input(block));
     let answer = result.answer;
     put_sight(words, answer);
     result.controller
 }
 
-fn plan(c: BodyController, i: PlanInput, words: &mut [u32; 96]) -> BodyController {
-    let result = c.plan(i);
+fn plan(c: BodyController, block: &[u8], words: &mut [u32; 96]) -> BodyController {
+    let result = c.plan(plan_input(block));
     let answer = result.answer;
     put_plan(words, answer);
     result.controller
 }
 
-fn steer(c: BodyController, i: SteerInput, words: &mut [u32; 96]) -> BodyController {
-    let result = c.steer(i);
+fn steer(c: BodyController, block: &[u8], words: &mut [u32; 96]) -> BodyController {
+    let result = c.steer(steer_input(block));
     let answer = result.answer;
     put_steer(words, answer);
     result.controller
 }
 
-fn finish(c: BodyController, i: FinishInput, words: &mut [u32; 96]) -> BodyController {
-    let result = c.finish(i);
+fn finish(c: BodyController, block: &[u8], words: &mut [u32; 96]) -> BodyController {
+    let result = c.finish(finish_input(block));
     let answer = result.answer;
     put_finish(words, answer);
     result.controller
 }
 
-// The refusals 9 and 10: a block in order is of the controller's k, and has the next tick's number,
-// which is word 0.
-fn test_order(words: &mut [u32; 96], own: TickLength, tick: TickLength, number: u32) {
-    if own.k != tick.k {
-        refuse(words, 9);
-    } else if number != words[0] {
-        refuse(words, 10);
-    }
-}
-
-// The calls, up to the first that is turned away.
+// The calls, up to the first that is turned away; finish would then be out of turn, and changes nothing.
 pub(crate) fn run_calls(
     mut c: BodyController,
-    b: TickBlock,
+    block: &[u8],
     words: &mut [u32; 96],
 ) -> BodyController {
-    test_order(words, c.tick_length(), b.tick, b.number);
     if words[2] == 0 {
-        c = sight(c, b.sight, words);
+        c = sight(c, block, words);
     }
     if words[2] == 0 {
-        c = plan(c, b.plan, words);
+        c = plan(c, block, words);
     }
     if words[2] == 0 {
-        c = steer(c, b.steer, words);
+        c = steer(c, block, words);
     }
-    if words[2] == 0 {
-        c = finish(c, b.finish, words);
-    }
-    c
+    finish(c, block, words)
 }

@@ -31,11 +31,14 @@ fn put_bytes(out: &mut [u8], words: &[u32; 96])
     }
 }
 
-// Whether the words could be written.
-fn write(words: &[u32; 96]) -> bool {
+// The words of a block of n bytes are written if it has any; whether another block may follow.
+fn write(words: &[u32; 96], n: usize) -> bool {
+    if n == 0 {
+        return false;
+    }
     let mut out = [0; 384];
     put_bytes(&mut out, words);
-    io::write_all(STDOUT_FILENO, &out)
+    io::write_all(STDOUT_FILENO, &out) & (n == 512)
 }
 
 // Reads and runs block after block; c stands for no pass until a block begins one.
@@ -46,12 +49,9 @@ fn run(mut c: BodyController) {
         let mut block = [0; 512];
         let mut words = [0; 96];
         let n = io::read_full(STDIN_FILENO, &mut block);
-        if n == 0 {
-            return;
-        }
         c = run_block(c, driving, &block[..n], &mut words);
         driving = words[1] != REFUSED;
-        if !write(&words) | (n < 512) {
+        if !write(&words, n) {
             return;
         }
         turns = turns - 1;

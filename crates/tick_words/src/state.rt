@@ -1,11 +1,7 @@
 // The words of what a tick leaves in the controller.
-ghost use Prim.Native.Nat.{_+_, _<_};
 use crate::answers::put_outputs;
 use crate::put::mark;
-use crate::put::put_vec3;
-use crate::put::put_vec4;
-use crate::put::put_vec6;
-use crate::put::put3;
+use crate::put::put;
 use body_controller::BodyController;
 use commands::GlobalPosition;
 use commands::HeadingLine;
@@ -13,23 +9,19 @@ use commands::ManeuverCommand;
 use control_context::ControlContext;
 use float_bits::to_bits;
 use gate::VisionGateState;
-use linear::Vector4f;
+use linear::Vector6f;
 use plan_memory::HeldSample;
 use plan_memory::PrevCommand;
+use setpoints::PidMemory;
 
 fn put_gate(words: &mut [u32; 96], gate: VisionGateState) {
     match gate {
         VisionGateState::Seeding(s) => {
             words[49] = s.n;
-            put_vec4(
+            put(
                 words,
                 50,
-                Vector4f {
-                    x: s.pos_sum.x,
-                    y: s.pos_sum.y,
-                    z: s.pos_sq_sum.x,
-                    w: s.pos_sq_sum.y,
-                },
+                &[s.pos_sum.x, s.pos_sum.y, s.pos_sq_sum.x, s.pos_sq_sum.y],
             );
         }
         VisionGateState::Tracking(t) => {
@@ -44,65 +36,103 @@ fn put_held(words: &mut [u32; 96], held: HeldSample) {
         HeldSample::Absent => {}
         HeldSample::Held(sample) => {
             words[58] = 1;
-            put_vec6(words, 59, sample.state);
-            put_vec3(words, 65, sample.accel);
+            let s = sample.state;
+            put(
+                words,
+                59,
+                &[
+                    s.pose.x,
+                    s.pose.y,
+                    s.pose.z,
+                    s.twist.x,
+                    s.twist.y,
+                    s.twist.z,
+                    sample.accel.x,
+                    sample.accel.y,
+                    sample.accel.z,
+                ],
+            );
         }
     }
 }
 
 fn put_position(words: &mut [u32; 96], p: GlobalPosition) {
     words[68] = 2;
-    put_vec3(words, 69, p.target_pose);
-    put3(
+    put(
         words,
-        72,
-        p.max_linear_vel,
-        p.max_angular_vel,
-        p.max_linear_acc,
+        69,
+        &[
+            p.target_pose.x,
+            p.target_pose.y,
+            p.target_pose.z,
+            p.max_linear_vel,
+            p.max_angular_vel,
+            p.max_linear_acc,
+            p.max_angular_acc,
+        ],
     );
-    words[75] = to_bits(p.max_angular_acc);
 }
 
 fn put_line(words: &mut [u32; 96], l: HeadingLine) {
     words[68] = 3;
-    put3(words, 69, l.global_theta, l.start_x, l.start_y);
-    put3(words, 72, l.dir_x, l.dir_y, l.line_velocity);
-    put3(
+    put(
         words,
-        75,
-        l.max_vel_colinear,
-        l.max_vel_perp,
-        l.max_vel_angular,
+        69,
+        &[
+            l.global_theta,
+            l.start_x,
+            l.start_y,
+            l.dir_x,
+            l.dir_y,
+            l.line_velocity,
+            l.max_vel_colinear,
+            l.max_vel_perp,
+            l.max_vel_angular,
+            l.max_accel_colinear,
+            l.max_accel_perp,
+            l.max_accel_angular,
+            l.colinear_start_thresh,
+        ],
     );
-    put3(
-        words,
-        78,
-        l.max_accel_colinear,
-        l.max_accel_perp,
-        l.max_accel_angular,
-    );
-    words[81] = to_bits(l.colinear_start_thresh);
 }
 
 // Off and brake are never a previous command: their modes hold.
-fn put_command(words: &mut [u32; 96], cmd: ManeuverCommand) {
-    match cmd {
-        ManeuverCommand::Off => {
-            words[68] = 0xffff_ffff;
-        }
-        ManeuverCommand::Brake => {
-            words[68] = 0xffff_ffff;
-        }
-        ManeuverCommand::GlobalPosition(p) => put_position(words, p),
-        ManeuverCommand::HeadingLine(l) => put_line(words, l),
-    }
-}
-
 fn put_previous(words: &mut [u32; 96], prev: PrevCommand) {
     match prev {
         PrevCommand::Absent => {}
-        PrevCommand::Was(cmd) => put_command(words, cmd),
+        PrevCommand::Was(cmd) => match cmd {
+            ManeuverCommand::GlobalPosition(p) => put_position(words, p),
+            ManeuverCommand::HeadingLine(l) => put_line(words, l),
+            _ => {
+                words[68] = 0xffff_ffff;
+            }
+        },
     }
+}
+
+fn put_estimate(words: &mut [u32; 96], estimate: Vector6f, pid: PidMemory) {
+    let pose = estimate.pose;
+    let twist = estimate.twist;
+    let prev = pid.prev_error;
+    let integrated = pid.integrated_error;
+    put(
+        words,
+        83,
+        &[
+            pose.x,
+            pose.y,
+            pose.z,
+            twist.x,
+            twist.y,
+            twist.z,
+            prev.x,
+            prev.y,
+            prev.z,
+            integrated.x,
+            integrated.y,
+            integrated.z,
+        ],
+    );
 }
 
 fn put_context(words: &mut [u32; 96], k: ControlContext) {
@@ -116,9 +146,7 @@ fn put_context(words: &mut [u32; 96], k: ControlContext) {
     put_held(words, held);
     put_previous(words, prev_cmd);
     words[82] = k.prev_mode;
-    put_vec6(words, 83, k.state_estimate);
-    put_vec3(words, 89, k.pose_pid.prev_error);
-    put_vec3(words, 92, k.pose_pid.integrated_error);
+    put_estimate(words, k.state_estimate, k.pose_pid);
 }
 
 // A tick that was finished has put its outputs and the wheels' mark.

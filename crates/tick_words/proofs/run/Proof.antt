@@ -18,9 +18,6 @@ slice-aggregate-read-full c = search needs
 read-full-requires : tie.Need-read-full-requires Inv-loop μ-loop
 read-full-requires c κs = search needs
 
-returns : tie.Need-returns Inv-loop μ-loop
-returns c = search needs
-
 array-share-prefix-block : tie.Need-array-share-prefix-block Inv-loop μ-loop
 array-share-prefix-block c = search needs
 
@@ -36,8 +33,8 @@ array-read-driving c = search needs
 write-requires : tie.Need-write-requires Inv-loop μ-loop
 write-requires c κs = search needs
 
-returns-2 : tie.Need-returns-2 Inv-loop μ-loop
-returns-2 c = search needs
+returns : tie.Need-returns Inv-loop μ-loop
+returns c = search needs
 
 sub-turns : tie.Need-sub-turns Inv-loop μ-loop
 sub-turns c = search needs
@@ -48,8 +45,8 @@ loop-less c = search needs
 loop-again : tie.Need-loop-again Inv-loop μ-loop
 loop-again c = search needs
 
-returns-3 : tie.Need-returns-3 Inv-loop μ-loop
-returns-3 c = search needs
+returns-2 : tie.Need-returns-2 Inv-loop μ-loop
+returns-2 c = search needs
 
 pub run-spec : {M : Type 1} → statement M
 run-spec =
@@ -60,14 +57,13 @@ run-spec =
     loop-holds
     slice-aggregate-read-full
     read-full-requires
-    returns
     array-share-prefix-block
     slice-aggregate-run-block
     run-block-requires
     array-read-driving
     write-requires
-    returns-2
+    returns
     sub-turns
     loop-less
     loop-again
-    returns-3)
+    returns-2)
