@@ -17,7 +17,7 @@ from unproved import Kit
 HERE = Path(__file__).resolve().parent
 TOP = HERE.parent
 # What only the lines show, beside the crates that drive uses and tick_words doesn't.
-TEXT_FILES = {"tick_parts/src/count.rt"}
+TEXT_FILES = {"tick/src/count.rt"}
 REFUSALS = [1, 4, 5, 6, 7, 8, 9, 10]
 # k and ticks of each pass; the longer ones let the cameras run out at exactly 0.5, the shortest
 # bring many refused blocks.

@@ -1,8 +1,8 @@
 -- active_brake.rs over the PID controller of four axes, one for each wheel. Assumes nothing.
 use Prim.Native.Nat.{ℕ}
 use mathlib.Core.Bool.{cond}
-use Rattle.linear.specs.declared.Vector4f.{Vector4f}
-use Rattle.linear.specs.Vector.{zeros4}
+use Rattle.na.specs.declared.Vector4f.{Vector4f}
+use Rattle.na.specs.Vector.{zeros4}
 use Rattle.tick_length.specs.TickLength.{isTickLength, secondsOf}
 use Rattle.tick_length.specs.TickLength as tick
 use Rattle.brake_wheel.specs.Wheel.{wheelController}

@@ -2,8 +2,8 @@
 ghost use mathlib.Core.Path.{_≡_};
 ghost use Rattle.active_brake.specs.Brake.{brakeOf, refusalNumber, refusalOf, newBrake, computed, resetBrake};
 use brake_wheel::wheel_controller;
-use linear::Vector4f;
-use linear::ZEROS_4;
+use na::Vector4f;
+use na::ZEROS_4;
 use pid_four::PidController4;
 use tick_length::TickLength;
 use tick_length::TickLengthAnswer;

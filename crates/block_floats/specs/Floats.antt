@@ -2,9 +2,9 @@
 use Prim.Native.Nat.{ℕ, _+_}
 use mathlib.Core.List.{List}
 use lib.Ieee.{Float, binary32, ofBits}
-use Rattle.linear.specs.declared.Vector2f.{Vector2f}
-use Rattle.linear.specs.declared.Vector3f.{Vector3f}
-use Rattle.linear.specs.declared.Vector4f.{Vector4f}
+use Rattle.na.specs.declared.Vector2f.{Vector2f}
+use Rattle.na.specs.declared.Vector3f.{Vector3f}
+use Rattle.na.specs.declared.Vector4f.{Vector4f}
 use Rattle.block_words.specs.Word.{wordAt}
 
 -- the float whose bits are word i

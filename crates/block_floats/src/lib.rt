@@ -3,9 +3,9 @@ ghost use mathlib.Core.Path.{_≡_};
 ghost use Rattle.block_floats.specs.Floats.{floatAt, vector2At, vector3At, vector4At};
 use block_words::word_at;
 use float_bits::from_bits;
-use linear::Vector2f;
-use linear::Vector3f;
-use linear::Vector4f;
+use na::Vector2f;
+use na::Vector3f;
+use na::Vector4f;
 
 // The float whose bits are word i.
 pub fn float_at(block: &[u8], i: usize) -> f32

@@ -7,7 +7,7 @@ use lib.ListN.{length}
 use Rattle.tick_length.specs.declared.TickLengthAnswer.{TickLengthAnswer}
 use Rattle.tick_length.specs.declared.TickLengthAnswer.the-variants as Length
 use Rattle.tick_length.specs.TickLength.{tickLengthOf}
-use Rattle.commands.specs.Command.{isMode}
+use Rattle.cmd.specs.Command.{isMode}
 use Rattle.block_words.specs.Word.{wordAt}
 use Rattle.block_check.specs.Layout as at
 use Rattle.block_check.specs.Check.{checkOf, spareZero}

@@ -6,7 +6,7 @@ use block_check::MODE;
 use block_check::check_of;
 use block_check::spare_zero;
 use block_words::word_at;
-use commands::is_mode;
+use cmd::is_mode;
 use tick_length::TickLength;
 use tick_length::TickLengthAnswer;
 

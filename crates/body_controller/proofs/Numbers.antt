@@ -5,12 +5,12 @@ use mathlib.Core.Bool.{Bool, true, false, cond}
 use native.Mathlib.Omega.{arith}
 use borrow.Author.Tests.{eqb-true, eqb-false, le-ltb}
 use lib.Dec.{eqb}
-use Rattle.commands.specs.declared.CommandAnswer.{CommandAnswer}
-use Rattle.commands.specs.declared.CommandAnswer.the-variants as Command
-use Rattle.commands.specs.declared.CommandWords.{CommandWords}
-use Rattle.commands.specs.Command.{isMode, commandFrom, refusalNumber}
+use Rattle.cmd.specs.declared.CommandAnswer.{CommandAnswer}
+use Rattle.cmd.specs.declared.CommandAnswer.the-variants as Command
+use Rattle.cmd.specs.declared.CommandWords.{CommandWords}
+use Rattle.cmd.specs.Command.{isMode, commandFrom, refusalNumber}
 use Rattle.body_controller.specs.declared.BodyController.{BodyController}
-use Rattle.call_inputs.specs.declared.PlanInput.{PlanInput}
+use Rattle.inputs.specs.declared.PlanInput.{PlanInput}
 use Rattle.body_controller.specs.declared.PlanResult.{PlanResult}
 use Rattle.body_controller.specs.Plan.{planned, planRefused, planWith, planOf, planNumber, planRefusal}
 use Rattle.body_controller.specs.Turn.{isPlan}

@@ -2,24 +2,24 @@
 use Prim.Native.Nat.{ℕ}
 use mathlib.Core.Bool.{false}
 use lib.Ieee.{binary32, ofBits}
-use Rattle.linear.specs.Vector.{zeros3, zeros6}
+use Rattle.na.specs.Vector.{zeros3, zeros6}
 use Rattle.tick_length.specs.declared.TickLengthAnswer.{TickLengthAnswer}
 use Rattle.tick_length.specs.declared.TickLengthAnswer.the-variants as Length
 use Rattle.tick_length.specs.TickLength.{tickLengthOf}
-use Rattle.commands.specs.declared.ManeuverCommand.the-variants.{Off}
+use Rattle.cmd.specs.declared.ManeuverCommand.the-variants.{Off}
 use Rattle.plan_answer.specs.declared.PlanAnswer.the-variants.{Hold}
-use Rattle.control_context.specs.declared.ControlContext.{ControlContext}
-use Rattle.control_context.specs.declared.Planned.{Planned}
-use Rattle.control_context.specs.Context.{newContext}
+use Rattle.context.specs.declared.ControlContext.{ControlContext}
+use Rattle.context.specs.declared.Planned.{Planned}
+use Rattle.context.specs.Context.{newContext}
 use Rattle.body_controller.specs.declared.BodyController.{BodyController}
 use Rattle.body_controller.specs.declared.Choices.{Choices}
 use Rattle.body_controller.specs.declared.NewAnswer.{NewAnswer}
 use Rattle.body_controller.specs.declared.NewAnswer.the-variants.{Made, Refused}
 use Rattle.call_answers.specs.declared.Steered.{Steered}
-use Rattle.tick_parts.specs.declared.Refusal.the-variants.{TickLength}
-use Rattle.tick_parts.specs.Refusal.{refusalNumber}
-use Rattle.tick_parts.specs.Counts.{noCounts}
-use Rattle.tick_parts.specs.Outputs.{noOutputs}
+use Rattle.tick.specs.declared.Refusal.the-variants.{TickLength}
+use Rattle.tick.specs.Refusal.{refusalNumber}
+use Rattle.tick.specs.Counts.{noCounts}
+use Rattle.tick.specs.Outputs.{noOutputs}
 
 -- ---- the start
 

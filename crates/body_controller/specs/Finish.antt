@@ -2,13 +2,13 @@
 use Prim.Native.Nat.{ℕ}
 use mathlib.Core.Bool.{cond}
 use Rattle.body_controller.specs.declared.BodyController.{BodyController}
-use Rattle.call_inputs.specs.declared.FinishInput.{FinishInput}
+use Rattle.inputs.specs.declared.FinishInput.{FinishInput}
 use Rattle.call_answers.specs.Finish.{finishedBy}
 use Rattle.body_controller.specs.declared.FinishAnswer.{FinishAnswer}
 use Rattle.body_controller.specs.declared.FinishAnswer.the-variants.{Accepted, Refused}
 use Rattle.body_controller.specs.declared.FinishResult.{FinishResult}
-use Rattle.tick_parts.specs.declared.Refusal.the-variants.{OutOfTurn}
-use Rattle.tick_parts.specs.Refusal.{refusalNumber}
+use Rattle.tick.specs.declared.Refusal.the-variants.{OutOfTurn}
+use Rattle.tick.specs.Refusal.{refusalNumber}
 use Rattle.body_controller.specs.Turn.{isFinish}
 
 -- an accepted call: its outputs are the controller's

@@ -1,20 +1,20 @@
 -- Plan, document 01, 'The tick's four calls' and 'When a call is turned away'. Assumes nothing.
 use Prim.Native.Nat.{ℕ}
 use mathlib.Core.Bool.{cond}
-use Rattle.commands.specs.declared.ManeuverCommand.{ManeuverCommand}
-use Rattle.commands.specs.declared.CommandAnswer.{CommandAnswer}
-use Rattle.commands.specs.declared.CommandAnswer.the-variants as Command
-use Rattle.commands.specs.Command.{isMode, commandFrom}
+use Rattle.cmd.specs.declared.ManeuverCommand.{ManeuverCommand}
+use Rattle.cmd.specs.declared.CommandAnswer.{CommandAnswer}
+use Rattle.cmd.specs.declared.CommandAnswer.the-variants as Command
+use Rattle.cmd.specs.Command.{isMode, commandFrom}
 use Rattle.context_plan.specs.declared.Decided.{Decided}
 use Rattle.context_plan.specs.Plan.{decidedOn}
 use Rattle.body_controller.specs.declared.BodyController.{BodyController}
-use Rattle.call_inputs.specs.declared.PlanInput.{PlanInput}
+use Rattle.inputs.specs.declared.PlanInput.{PlanInput}
 use Rattle.body_controller.specs.declared.PlanCallAnswer.{PlanCallAnswer}
 use Rattle.body_controller.specs.declared.PlanCallAnswer.the-variants.{Accepted, Refused}
 use Rattle.body_controller.specs.declared.PlanResult.{PlanResult}
-use Rattle.tick_parts.specs.declared.Refusal.{Refusal}
-use Rattle.tick_parts.specs.declared.Refusal.the-variants.{OutOfTurn, Mode, EstimatorFailed}
-use Rattle.tick_parts.specs.Refusal.{refusalNumber}
+use Rattle.tick.specs.declared.Refusal.{Refusal}
+use Rattle.tick.specs.declared.Refusal.the-variants.{OutOfTurn, Mode, EstimatorFailed}
+use Rattle.tick.specs.Refusal.{refusalNumber}
 use Rattle.body_controller.specs.Controller.{turnedTo}
 use Rattle.body_controller.specs.Turn.{isPlan}
 

@@ -6,15 +6,15 @@ use Rattle.tick_length.specs.TickLength.{secondsOf}
 use Rattle.context_sight.specs.declared.Seen.{Seen}
 use Rattle.context_sight.specs.Sight.{seen}
 use Rattle.body_controller.specs.declared.BodyController.{BodyController}
-use Rattle.tick_parts.specs.declared.Refusal.{Refusal}
-use Rattle.tick_parts.specs.declared.Refusal.the-variants.{OutOfTurn, TickLimit}
-use Rattle.call_inputs.specs.declared.SightInput.{SightInput}
+use Rattle.tick.specs.declared.Refusal.{Refusal}
+use Rattle.tick.specs.declared.Refusal.the-variants.{OutOfTurn, TickLimit}
+use Rattle.inputs.specs.declared.SightInput.{SightInput}
 use Rattle.call_answers.specs.Sight.{sightAnswer}
 use Rattle.body_controller.specs.declared.SightAnswer.{SightAnswer}
 use Rattle.body_controller.specs.declared.SightAnswer.the-variants.{Accepted, Refused}
 use Rattle.body_controller.specs.declared.SightResult.{SightResult}
-use Rattle.tick_parts.specs.Refusal.{refusalNumber}
-use Rattle.tick_parts.specs.Counts.{counted}
+use Rattle.tick.specs.Refusal.{refusalNumber}
+use Rattle.tick.specs.Counts.{counted}
 use Rattle.body_controller.specs.Turn.{isSight}
 
 -- 'sight after 16,777,216 ticks'

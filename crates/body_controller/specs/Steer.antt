@@ -4,17 +4,17 @@ use mathlib.Core.Bool.{Bool, cond, _&&_}
 use Rattle.tick_length.specs.TickLength.{secondsOf}
 use Rattle.plan_answer.specs.Answer.{needsPlan}
 use Rattle.context_steer.specs.declared.Tracked.{Tracked}
-use Rattle.control_context.specs.Context as Context
+use Rattle.context.specs.Context as Context
 use Rattle.context_steer.specs.Steer as Context'
 use Rattle.body_controller.specs.declared.BodyController.{BodyController}
-use Rattle.tick_parts.specs.declared.Refusal.{Refusal}
-use Rattle.tick_parts.specs.declared.Refusal.the-variants.{OutOfTurn, PlannerFailed}
-use Rattle.call_inputs.specs.declared.SteerInput.{SteerInput}
+use Rattle.tick.specs.declared.Refusal.{Refusal}
+use Rattle.tick.specs.declared.Refusal.the-variants.{OutOfTurn, PlannerFailed}
+use Rattle.inputs.specs.declared.SteerInput.{SteerInput}
 use Rattle.body_controller.specs.declared.SteerAnswer.{SteerAnswer}
 use Rattle.body_controller.specs.declared.SteerAnswer.the-variants.{Accepted, Refused}
 use Rattle.body_controller.specs.declared.SteerResult.{SteerResult}
 use Rattle.call_answers.specs.Steer.{limited}
-use Rattle.tick_parts.specs.Refusal.{refusalNumber}
+use Rattle.tick.specs.Refusal.{refusalNumber}
 use Rattle.body_controller.specs.Controller.{turnedTo}
 use Rattle.body_controller.specs.Turn.{isSteer}
 

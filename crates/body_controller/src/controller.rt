@@ -1,27 +1,27 @@
 // The controller, made by `new`, and its parts for readers. The calls are in the modules of their names.
 ghost use mathlib.Core.Path.{_≡_};
 ghost use Rattle.tick_length.specs.TickLength.{refusalOf};
-ghost use Rattle.tick_parts.specs.Outputs.{noOutputs};
-ghost use Rattle.vision_gate.specs.Vision.{active};
+ghost use Rattle.tick.specs.Outputs.{noOutputs};
+ghost use Rattle.vision.specs.Vision.{active};
 ghost use Rattle.divergence.specs.Divergence.{isRecovering};
 ghost use Rattle.body_controller.specs.Controller.{started, newOf, newNumber, resetOf};
 use crate::BodyController;
 use crate::Choices;
 use crate::NewAnswer;
 use call_answers::Steered;
-use commands::ManeuverCommand;
-use control_context::ControlContext;
-use control_context::Planned;
-use linear::Vector6f;
-use linear::ZEROS_3;
+use cmd::ManeuverCommand;
+use context::ControlContext;
+use context::Planned;
+use na::Vector6f;
+use na::ZEROS_3;
 use plan_answer::PlanAnswer;
+use tick::Counts;
+use tick::NO_COUNTS;
+use tick::NO_OUTPUTS;
+use tick::Outputs;
+use tick::Refusal;
 use tick_length::TickLength;
 use tick_length::TickLengthAnswer;
-use tick_parts::Counts;
-use tick_parts::NO_COUNTS;
-use tick_parts::NO_OUTPUTS;
-use tick_parts::Outputs;
-use tick_parts::Refusal;
 
 // The turn, a term of document 01, by the calls' order in a tick.
 pub const SIGHT: u8 = 0;

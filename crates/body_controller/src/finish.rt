@@ -7,8 +7,8 @@ use crate::FinishResult;
 use crate::controller::FINISH;
 use crate::controller::SIGHT;
 use call_answers::finish::finish_by;
-use call_inputs::FinishInput;
-use tick_parts::Refusal;
+use inputs::FinishInput;
+use tick::Refusal;
 
 impl BodyController {
     // Finish's turn is FINISH and what lies above it, where no call leads.

@@ -9,14 +9,14 @@ pub mod steer; // steer.rt: tracking and recovery
 use call_answers::Finished;
 use call_answers::Sighted;
 use call_answers::Steered;
-use control_context::ControlContext;
-use control_context::Planned;
-use linear::Vector3f;
+use context::ControlContext;
+use context::Planned;
+use na::Vector3f;
 use plan_answer::PlanAnswer;
+use tick::Counts;
+use tick::Outputs;
+use tick::Refusal;
 use tick_length::TickLength;
-use tick_parts::Counts;
-use tick_parts::Outputs;
-use tick_parts::Refusal;
 
 // What is chosen once, at the start.
 pub struct Choices {

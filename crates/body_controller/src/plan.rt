@@ -7,12 +7,12 @@ use crate::PlanResult;
 use crate::controller::PLAN;
 use crate::controller::SIGHT;
 use crate::controller::STEER;
-use call_inputs::PlanInput;
-use commands::CommandAnswer;
-use commands::ManeuverCommand;
+use cmd::CommandAnswer;
+use cmd::ManeuverCommand;
+use context::Planned;
 use context_plan::decide_on;
-use control_context::Planned;
-use tick_parts::Refusal;
+use inputs::PlanInput;
+use tick::Refusal;
 
 impl BodyController {
     // The controller after the decision on this command.

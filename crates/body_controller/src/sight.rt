@@ -7,9 +7,9 @@ use crate::SightResult;
 use crate::controller::PLAN;
 use crate::controller::SIGHT;
 use call_answers::sight::sight_answer;
-use call_inputs::SightInput;
 use context_sight::see;
-use tick_parts::Refusal;
+use inputs::SightInput;
+use tick::Refusal;
 
 // Ticks that a controller can count.
 pub const TICK_LIMIT: u32 = 16_777_216;

@@ -8,9 +8,9 @@ use crate::controller::FINISH;
 use crate::controller::SIGHT;
 use crate::controller::STEER;
 use call_answers::steer::limit;
-use call_inputs::SteerInput;
 use context_steer::steer;
-use tick_parts::Refusal;
+use inputs::SteerInput;
+use tick::Refusal;
 
 impl BodyController {
     // The context steered, and its setpoints limited; finish is next.

@@ -6,7 +6,7 @@ use lib.Dec.{T, eqb}
 use lib.Ieee.{Float, binary32, ofBits, toBits, ofInt, add, sub, mul, div, neg, lt, size, round}
 use Rattle.float_bits.specs.Magnitude.{magnitude}
 use Rattle.float_clamp.specs.Clamp.{clampBetween}
-use Rattle.linear.specs.Vector.{zeroFloat}
+use Rattle.na.specs.Vector.{zeroFloat}
 use Rattle.tick_length.specs.TickLength.{isTickLength, secondsOf}
 use Rattle.tick_length.proofs.Sweep.{everyTo, at-tick-length}
 use Rattle.pid.specs.Axis.{antiJitter, limited, integrated, weighted, response, calculated, newController}

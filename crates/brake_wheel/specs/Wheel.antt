@@ -1,7 +1,7 @@
 -- active_brake.rs: the controller of one wheel. Assumes nothing.
 use lib.Ieee.{neg}
-use Rattle.linear.specs.Vector.{zeroFloat}
-use Rattle.controller_params.specs.Params.{brakeKp, brakeAntiJitterRads, brakeMaxCurrentA}
+use Rattle.na.specs.Vector.{zeroFloat}
+use Rattle.params.specs.Params.{brakeKp, brakeAntiJitterRads, brakeMaxCurrentA}
 use Rattle.pid.specs.declared.PidController.{PidController}
 use Rattle.pid.specs.declared.AntiJitterThresh.the-variants.{Below}
 use Rattle.pid.specs.declared.OutputLimits.the-variants.{Between}

@@ -1,10 +1,10 @@
 // active_brake.rs: the controller of one wheel.
 ghost use mathlib.Core.Path.{_≡_};
 ghost use Rattle.brake_wheel.specs.Wheel.{wheelController};
-use controller_params::BRAKE_ANTI_JITTER_RADS;
-use controller_params::BRAKE_KP;
-use controller_params::BRAKE_MAX_CURRENT_A;
-use controller_params::PidGains;
+use params::BRAKE_ANTI_JITTER_RADS;
+use params::BRAKE_KP;
+use params::BRAKE_MAX_CURRENT_A;
+use params::PidGains;
 use pid::AntiJitterThresh;
 use pid::OutputLimits;
 use pid::PidController;

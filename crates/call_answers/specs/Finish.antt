@@ -2,7 +2,7 @@
 use mathlib.Core.Bool.{Bool}
 use Rattle.wheels.specs.declared.FinishOutputs.{FinishOutputs}
 use Rattle.wheels.specs.Outputs.{finishOutputs}
-use Rattle.call_inputs.specs.declared.FinishInput.{FinishInput}
+use Rattle.inputs.specs.declared.FinishInput.{FinishInput}
 use Rattle.call_answers.specs.declared.Steered.{Steered}
 use Rattle.call_answers.specs.declared.Finished.{Finished}
 

@@ -2,7 +2,7 @@
 use Rattle.gate_action.specs.declared.GateAction.{GateAction}
 use Rattle.gate_action.specs.Outcome.{takes}
 use Rattle.prediction.specs.Prediction.{predictedAfter}
-use Rattle.call_inputs.specs.declared.SightInput.{SightInput}
+use Rattle.inputs.specs.declared.SightInput.{SightInput}
 use Rattle.call_answers.specs.declared.Sighted.{Sighted}
 
 -- 'answers outcome, measurement, whether vision counts, and the predicted state after any overwriting'

@@ -1,8 +1,8 @@
 -- Steer's limits and the friction twist, document 01, 'The tick's four calls'. Assumes nothing.
 use mathlib.Core.Bool.{Bool}
 use lib.Ieee.{Float}
-use Rattle.linear.specs.declared.Vector3f.{Vector3f}
-use Rattle.linear.specs.declared.Vector6f.{Vector6f}
+use Rattle.na.specs.declared.Vector3f.{Vector3f}
+use Rattle.na.specs.declared.Vector6f.{Vector6f}
 use Rattle.stop.specs.Stop.{stopScaled}
 use Rattle.limits.specs.Limits.{twistClamped}
 use Rattle.friction.specs.Friction.{frictionTwist}

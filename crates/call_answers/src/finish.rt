@@ -3,8 +3,8 @@ ghost use mathlib.Core.Path.{_≡_};
 ghost use Rattle.call_answers.specs.Finish.{finishedBy};
 use crate::Finished;
 use crate::Steered;
-use call_inputs::FinishInput;
-use tick_parts::Outputs;
+use inputs::FinishInput;
+use tick::Outputs;
 use wheels::finish_outputs;
 
 // The outputs that steer's setpoints give, and the marks.

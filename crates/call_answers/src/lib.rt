@@ -5,10 +5,10 @@ pub mod sight; // sight.rt: measurement and predicted state
 pub mod steer; // steer.rt: the twist's limits and the friction twist
 
 use gate_action::GateAction;
-use linear::Vector3f;
-use linear::Vector4f;
-use linear::Vector6f;
-use tick_parts::Outputs;
+use na::Vector3f;
+use na::Vector4f;
+use na::Vector6f;
+use tick::Outputs;
 
 // The estimator's eight numbers.
 pub struct Measurement {

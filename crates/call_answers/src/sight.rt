@@ -3,8 +3,8 @@ ghost use mathlib.Core.Path.{_≡_};
 ghost use Rattle.call_answers.specs.Sight.{sightAnswer};
 use crate::Measurement;
 use crate::Sighted;
-use call_inputs::SightInput;
 use gate_action::GateAction;
+use inputs::SightInput;
 use prediction::predict_after;
 
 pub fn sight_answer(action: GateAction, i: SightInput) -> Sighted

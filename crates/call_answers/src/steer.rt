@@ -5,8 +5,8 @@ use crate::Limited;
 use crate::Steered;
 use friction::friction_twist;
 use limits::clamp_twist;
-use linear::Vector3f;
-use linear::Vector6f;
+use na::Vector3f;
+use na::Vector6f;
 use stop::stop_scaled;
 
 // The tick's setpoints, limited, and the friction twist.

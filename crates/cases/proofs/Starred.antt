@@ -13,7 +13,7 @@ use Rattle.active_brake.specs.Brake.{brakeOf}
 use Rattle.brake_wheel.proofs.Cases as Wheel
 use Rattle.encoder_lag.specs.EncoderLag.{lagOf}
 use Rattle.encoder_lag.proofs.Cases as Lag
-use Rattle.vision_gate.proofs.Cases as Gate
+use Rattle.vision.proofs.Cases as Gate
 use Rattle.limits.proofs.Cases as Limits
 use Rattle.body_controller.specs.Controller.{newOf}
 use Rattle.cases.specs.Starred.{float, currentBits, NumberFor, Starred}

@@ -6,15 +6,15 @@ use lib.Ieee.{Float, nan, binary32, ofBits, toBits}
 use Rattle.float_root.specs.Root.{squareRoot}
 use Rattle.float_remainder.specs.Remainder.{remainderBy, tau}
 use Rattle.float_hypot.specs.Hypot.{hypotenuse}
-use Rattle.linear.specs.declared.Vector3f.{Vector3f}
-use Rattle.linear.specs.Vector.{zeroFloat}
+use Rattle.na.specs.declared.Vector3f.{Vector3f}
+use Rattle.na.specs.Vector.{zeroFloat}
 use Rattle.tick_length.specs.TickLength.{isTickLength, secondsOf, microsOf}
 use Rattle.pid.specs.Axis.{calculated}
 use Rattle.brake_wheel.specs.Wheel.{wheelController}
 use Rattle.active_brake.specs.Brake as Brake
 use Rattle.encoder_lag.specs.EncoderLag as Lag
-use Rattle.vision_gate.specs.Vision.{active}
-use Rattle.vision_gate.specs.Since.{clockSince}
+use Rattle.vision.specs.Vision.{active}
+use Rattle.vision.specs.Since.{clockSince}
 use Rattle.limits.specs.Limits.{twistClamped}
 use Rattle.body_controller.specs.Controller.{newOf, newNumber}
 

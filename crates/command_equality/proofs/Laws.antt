@@ -6,8 +6,8 @@ use mathlib.Core.List.{List, [], _∷_}
 use borrow.Author.Tests.{eqb-true, eqb-false, eq-eqb, ne-eqb}
 use lib.Dec.{eqb}
 use lib.Ieee.{Float, nan, inf, fin, binary32, up, down, level, eq, isNan, ofBits}
-use Rattle.commands.specs.declared.ManeuverCommand.{ManeuverCommand}
-use Rattle.commands.specs.Command.{modeOf, fieldsOf}
+use Rattle.cmd.specs.declared.ManeuverCommand.{ManeuverCommand}
+use Rattle.cmd.specs.Command.{modeOf, fieldsOf}
 use Rattle.command_equality.specs.Equality.{fieldsEqual, equal}
 
 -- ---- equality is symmetric

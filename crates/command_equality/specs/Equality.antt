@@ -3,10 +3,10 @@ use mathlib.Core.Bool.{Bool, true, false, not, _&&_}
 use mathlib.Core.List.{List, [], _∷_}
 use lib.Dec.{eqb}
 use lib.Ieee.{Float, eq}
-use Rattle.commands.specs.declared.ManeuverCommand.{ManeuverCommand}
-use Rattle.commands.specs.Command.{modeOf, fieldsOf}
-use Rattle.plan_memory.specs.declared.PrevCommand.{PrevCommand}
-use Rattle.plan_memory.specs.declared.PrevCommand.the-variants as Prev
+use Rattle.cmd.specs.declared.ManeuverCommand.{ManeuverCommand}
+use Rattle.cmd.specs.Command.{modeOf, fieldsOf}
+use Rattle.memory.specs.declared.PrevCommand.{PrevCommand}
+use Rattle.memory.specs.declared.PrevCommand.the-variants as Prev
 
 -- fields equal as floats, each with the one at its place
 unfoldable pub fieldsEqual : List Float → List Float → Bool

@@ -1,11 +1,11 @@
 // When two commands are equal, and whether the command changed.
 ghost use mathlib.Core.Path.{_≡_};
-ghost use Rattle.commands.specs.Command.{positionFields, lineFields};
+ghost use Rattle.cmd.specs.Command.{positionFields, lineFields};
 ghost use Rattle.command_equality.specs.Equality.{fieldsEqual, equal, commandChanged};
-use commands::GlobalPosition;
-use commands::HeadingLine;
-use commands::ManeuverCommand;
-use plan_memory::PrevCommand;
+use cmd::GlobalPosition;
+use cmd::HeadingLine;
+use cmd::ManeuverCommand;
+use memory::PrevCommand;
 
 fn positions_equal(p: GlobalPosition, o: GlobalPosition) -> bool
     ensures { λ r. ⌜ r ≡ fieldsEqual (positionFields p) (positionFields o) ⌝ }

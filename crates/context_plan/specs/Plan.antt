@@ -1,14 +1,14 @@
 -- Plan's work on a context, document 01, 'The tick's four calls': estimate, decision and the wheels' mark. Assumes nothing.
 use Prim.Native.Nat.{ℕ}
 use mathlib.Core.Bool.{Bool, _||_}
-use Rattle.linear.specs.declared.Vector6f.{Vector6f}
-use Rattle.vision_gate.specs.Vision.{active}
-use Rattle.commands.specs.declared.ManeuverCommand.{ManeuverCommand}
+use Rattle.na.specs.declared.Vector6f.{Vector6f}
+use Rattle.vision.specs.Vision.{active}
+use Rattle.cmd.specs.declared.ManeuverCommand.{ManeuverCommand}
 use Rattle.maneuvers.specs.declared.Decision.{Decision}
 use Rattle.maneuvers.specs.Plan.{decided}
 use Rattle.plan_answer.specs.Answer.{disablesWheels}
 use Rattle.divergence.specs.Divergence.{isRecovering}
-use Rattle.control_context.specs.declared.ControlContext.{ControlContext}
+use Rattle.context.specs.declared.ControlContext.{ControlContext}
 use Rattle.context_plan.specs.declared.Decided.{Decided}
 
 -- the one decision, on this command

@@ -1,10 +1,10 @@
 // Plan's work on a context: the estimate is set, and what is to be tracked is decided.
 ghost use mathlib.Core.Path.{_≡_};
 ghost use Rattle.context_plan.specs.Plan.{decidedOn};
-use commands::ManeuverCommand;
-use control_context::ControlContext;
-use linear::Vector6f;
+use cmd::ManeuverCommand;
+use context::ControlContext;
 use maneuvers::decide;
+use na::Vector6f;
 use plan_answer::PlanAnswer;
 
 // Plan's answer, beside the context as plan leaves it.

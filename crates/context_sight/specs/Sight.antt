@@ -1,16 +1,16 @@
 -- Sight's work on a context, document 01, 'The tick's four calls': wheels, gate and drops. Assumes nothing.
 use mathlib.Core.Bool.{Bool, false, cond}
 use lib.Ieee.{Float}
-use Rattle.linear.specs.declared.Vector3f.{Vector3f}
-use Rattle.linear.specs.declared.Vector6f.{Vector6f}
+use Rattle.na.specs.declared.Vector3f.{Vector3f}
+use Rattle.na.specs.declared.Vector6f.{Vector6f}
 use Rattle.gate_action.specs.declared.GateAction.{GateAction}
-use Rattle.vision_gate.specs.declared.Vision.{Vision}
-use Rattle.vision_gate.specs.declared.VisionAnswer.{VisionAnswer}
+use Rattle.vision.specs.declared.Vision.{Vision}
+use Rattle.vision.specs.declared.VisionAnswer.{VisionAnswer}
 use Rattle.gate_action.specs.Outcome.{overwrites}
-use Rattle.vision_gate.specs.Vision.{visionAfter}
-use Rattle.plan_memory.specs.Memory.{emptyMemory}
+use Rattle.vision.specs.Vision.{visionAfter}
+use Rattle.memory.specs.Memory.{emptyMemory}
 use Rattle.setpoints.specs.Setpoints.{emptyPid}
-use Rattle.control_context.specs.declared.ControlContext.{ControlContext}
+use Rattle.context.specs.declared.ControlContext.{ControlContext}
 use Rattle.context_sight.specs.declared.Seen.{Seen}
 
 -- 'enables the wheels, then the gate'; 'C and J .. drop trajectory, previous command and PID memory'

@@ -1,11 +1,11 @@
 // Sight's work on a context: the gate judges, and the wheels are enabled.
 ghost use mathlib.Core.Path.{_≡_};
 ghost use Rattle.context_sight.specs.Sight.{seen};
-use control_context::ControlContext;
+use context::ControlContext;
 use gate_action::GateAction;
-use linear::Vector3f;
-use linear::Vector6f;
-use plan_memory::Memory;
+use memory::Memory;
+use na::Vector3f;
+use na::Vector6f;
 use setpoints::EMPTY_PID;
 
 // The outcome, beside the context as sight leaves it.

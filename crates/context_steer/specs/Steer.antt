@@ -1,27 +1,27 @@
 -- Steer's work on a context, document 01, 'The tick's four calls': tracking and recovery. Assumes nothing.
 use mathlib.Core.Bool.{cond}
 use lib.Ieee.{Float}
-use Rattle.linear.specs.declared.Vector4f.{Vector4f}
-use Rattle.linear.specs.declared.Vector6f.{Vector6f}
-use Rattle.commands.specs.declared.ManeuverCommand.{ManeuverCommand}
-use Rattle.plan_memory.specs.declared.Sample.{Sample}
-use Rattle.plan_memory.specs.declared.HeldSample.{HeldSample}
-use Rattle.plan_memory.specs.declared.HeldSample.the-variants as Samples
-use Rattle.plan_memory.specs.declared.Memory.{Memory}
+use Rattle.na.specs.declared.Vector4f.{Vector4f}
+use Rattle.na.specs.declared.Vector6f.{Vector6f}
+use Rattle.cmd.specs.declared.ManeuverCommand.{ManeuverCommand}
+use Rattle.memory.specs.declared.Sample.{Sample}
+use Rattle.memory.specs.declared.HeldSample.{HeldSample}
+use Rattle.memory.specs.declared.HeldSample.the-variants as Samples
+use Rattle.memory.specs.declared.Memory.{Memory}
 use Rattle.plan_answer.specs.declared.PlanAnswer.{PlanAnswer}
 use Rattle.plan_answer.specs.declared.PlanAnswer.the-variants.{Hold, NoVision, Keep, NewPlan}
-use Rattle.plan_memory.specs.Memory.{afterTracking, heldOr}
+use Rattle.memory.specs.Memory.{afterTracking, heldOr}
 use Rattle.recovery.specs.declared.HeldState.{HeldState}
 use Rattle.recovery.specs.declared.HeldState.the-variants as States
 use Rattle.recovery.specs.declared.RecoveryAnswer.{RecoveryAnswer}
 use Rattle.setpoints.specs.Setpoints.{zeroSetpoints}
 use Rattle.tracking.specs.Setpoints.{trackingSetpoints}
 use Rattle.recovery.specs.Recovery.{recovery}
-use Rattle.control_context.specs.declared.ControlContext.{ControlContext}
-use Rattle.control_context.specs.declared.Divergence.{Divergence}
-use Rattle.control_context.specs.declared.Planned.{Planned}
+use Rattle.context.specs.declared.ControlContext.{ControlContext}
+use Rattle.context.specs.declared.Divergence.{Divergence}
+use Rattle.context.specs.declared.Planned.{Planned}
 use Rattle.context_steer.specs.declared.Tracked.{Tracked}
-use Rattle.control_context.specs.Context.{contextReset}
+use Rattle.context.specs.Context.{contextReset}
 
 -- ---- tracking
 

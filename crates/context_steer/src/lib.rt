@@ -1,15 +1,15 @@
 // Steer's work on a context: setpoints that track what plan decided, then recovery.
 ghost use mathlib.Core.Path.{_≡_};
 ghost use Rattle.context_steer.specs.Steer.{trackedSample, recoveryBy, recovered, steered};
-use control_context::ControlContext;
-use control_context::Divergence;
-use control_context::Planned;
-use linear::Vector4f;
-use linear::Vector6f;
+use context::ControlContext;
+use context::Divergence;
+use context::Planned;
+use memory::HeldSample;
+use memory::Memory;
+use memory::Sample;
+use na::Vector4f;
+use na::Vector6f;
 use plan_answer::PlanAnswer;
-use plan_memory::HeldSample;
-use plan_memory::Memory;
-use plan_memory::Sample;
 use recovery::HeldState;
 use recovery::RecoveryAnswer;
 use recovery::update_tracking_divergence_recovery;

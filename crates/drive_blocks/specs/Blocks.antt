@@ -4,7 +4,7 @@ use mathlib.Core.Bool.{cond}
 use mathlib.Core.List.{List}
 use lib.Dec.{eqb}
 use Rattle.tick_length.specs.declared.TickLength.{TickLength}
-use Rattle.tick_parts.specs.Refusal.{refusalNumber}
+use Rattle.tick.specs.Refusal.{refusalNumber}
 use Rattle.body_controller.specs.declared.BodyController.{BodyController}
 use Rattle.body_controller.specs.declared.NewAnswer.{NewAnswer}
 use Rattle.body_controller.specs.declared.NewAnswer.the-variants as New

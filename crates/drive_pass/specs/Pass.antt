@@ -1,8 +1,8 @@
 -- A pass, a term of document 01, 'When a call is turned away' (blocks) and 'Cases' (program `drive`): its numbers, and what a refused block
 -- prints. Assumes nothing.
 use Prim.Native.Nat.{ℕ}
-use Rattle.tick_parts.specs.declared.Counts.{Counts}
-use Rattle.tick_parts.specs.Counts.{noCounts}
+use Rattle.tick.specs.declared.Counts.{Counts}
+use Rattle.tick.specs.Counts.{noCounts}
 use Rattle.line_text.specs.declared.Line.the-variants as Lines
 use Rattle.drive_pass.specs.declared.Driven.{Driven}
 use Rattle.drive_pass.specs.declared.Pass.{Pass}

@@ -4,8 +4,8 @@ ghost use Rattle.drive_pass.specs.Pass.{nextNumber, countsOf, refusedBy}
 use body_controller::BodyController;
 use line_text::Line;
 use line_text::RefusedLine;
-use tick_parts::Counts;
-use tick_parts::NO_COUNTS;
+use tick::Counts;
+use tick::NO_COUNTS;
 
 // Before its first accepted block, a pass has no controller: that block's k makes it.
 pub enum Pass {

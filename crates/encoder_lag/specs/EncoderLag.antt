@@ -5,8 +5,8 @@ use mathlib.Core.Bool.{true, false, cond}
 use lib.IntN.{pos}
 use lib.Dec.{T}
 use lib.Ieee.{Float, fin, binary32, ofInt, ofBits, toUnsigned, add, mul, div, lt}
-use Rattle.linear.specs.Vector.{zeros2}
-use Rattle.controller_params.specs.Params.{encLagK, encLagTSlope, encLagTHorizon, tMinDefault}
+use Rattle.na.specs.Vector.{zeros2}
+use Rattle.params.specs.Params.{encLagK, encLagTSlope, encLagTHorizon, tMinDefault}
 use Rattle.tick_length.specs.TickLength.{isTickLength, microsOf}
 use Rattle.first_order_lag.specs.declared.FirstOrderLag.{FirstOrderLag}
 use Rattle.encoder_lag.specs.declared.FirstOrderLagAnswer.{FirstOrderLagAnswer}

@@ -1,6 +1,6 @@
 -- The lag as a whole: a reset undoes every step, and an inversion of no steps answers what was desired. Assumes nothing.
 use mathlib.Core.Path.{_≡_, refl}
-use Rattle.linear.specs.declared.Vector2f.{Vector2f}
+use Rattle.na.specs.declared.Vector2f.{Vector2f}
 use Rattle.first_order_lag.specs.declared.FirstOrderLag.{FirstOrderLag}
 use Rattle.lag_axis.specs.Axis.{iterated, axisInvert}
 use Rattle.first_order_lag.specs.FirstOrderLag.{xAxis, yAxis, resetOf, steppedOf, invertedOf}

@@ -1,6 +1,6 @@
 -- `FirstOrderLag` of model/mod.rs over two axes: the calls on one. Assumes nothing.
-use Rattle.linear.specs.declared.Vector2f.{Vector2f}
-use Rattle.linear.specs.Vector.{zeros2}
+use Rattle.na.specs.declared.Vector2f.{Vector2f}
+use Rattle.na.specs.Vector.{zeros2}
 use Rattle.lag_axis.specs.declared.Axis.{Axis}
 use Rattle.first_order_lag.specs.declared.FirstOrderLag.{FirstOrderLag}
 use Rattle.lag_axis.specs.Axis.{axisStep, axisInvert}

@@ -2,8 +2,8 @@
 ghost use mathlib.Core.Path.{_≡_};
 ghost use Rattle.first_order_lag.specs.FirstOrderLag.{xAxis, yAxis, resetOf, steppedOf, invertedOf};
 use lag_axis::Axis;
-use linear::Vector2f;
-use linear::ZEROS_2;
+use na::Vector2f;
+use na::ZEROS_2;
 
 pub struct FirstOrderLagParams {
     pub k: Vector2f,

@@ -3,11 +3,11 @@ use mathlib.Core.Bool.{Bool, cond, _||_}
 use lib.Ieee.{Float, le}
 use Rattle.float_bits.specs.Magnitude.{magnitude}
 use Rattle.float_hypot.specs.Hypot.{hypotenuse}
-use Rattle.linear.specs.declared.Vector3f.{Vector3f}
-use Rattle.linear.specs.declared.Vector6f.{Vector6f}
-use Rattle.linear.specs.Vector.{zeroFloat}
+use Rattle.na.specs.declared.Vector3f.{Vector3f}
+use Rattle.na.specs.declared.Vector6f.{Vector6f}
+use Rattle.na.specs.Vector.{zeroFloat}
 use Rattle.matrices.specs.Rotation.{toLocal}
-use Rattle.controller_params.specs.Params.{frictionCompGating}
+use Rattle.params.specs.Params.{frictionCompGating}
 
 -- 'Steer': gates 0.1 for the linear velocity and 0.5 for the linear acceleration, both inclusive
 unfoldable pub linearCompOn : Vector3f → Vector3f → Bool

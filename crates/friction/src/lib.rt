@@ -1,12 +1,12 @@
 // Document 01, 'Steer': the friction twist, local and gated.
 ghost use mathlib.Core.Path.{_≡_};
 ghost use Rattle.friction.specs.Friction.{linearCompOn, angularCompOn, keptIf, frictionTwist};
-use controller_params::FRICTION_COMP_GATING;
 use float_bits::abs;
 use float_hypot::hypot;
-use linear::Vector3f;
-use linear::Vector6f;
 use matrices::rotation::rotate_to_local;
+use na::Vector3f;
+use na::Vector6f;
+use params::FRICTION_COMP_GATING;
 
 fn linear_comp_on(vel: Vector3f, accel: Vector3f) -> bool
     ensures { λ r. ⌜ r ≡ linearCompOn vel accel ⌝ }

@@ -3,10 +3,10 @@ use mathlib.Core.Bool.{Bool, cond}
 use lib.Dec.{ltb}
 use lib.Ieee.{Float, binary32, add, sub, mul, lt, le, eq}
 use Rattle.float_hypot.specs.Hypot.{hypotenuse}
-use Rattle.linear.specs.declared.Vector3f.{Vector3f}
-use Rattle.linear.specs.declared.Vector6f.{Vector6f}
-use Rattle.linear.specs.Vector.{zeroFloat}
-use Rattle.controller_params.specs.Params.{visionSeedSamples, visionGateBaseRadiusM, visionGateExpandRateMPerS}
+use Rattle.na.specs.declared.Vector3f.{Vector3f}
+use Rattle.na.specs.declared.Vector6f.{Vector6f}
+use Rattle.na.specs.Vector.{zeroFloat}
+use Rattle.params.specs.Params.{visionSeedSamples, visionGateBaseRadiusM, visionGateExpandRateMPerS}
 use Rattle.seeding.specs.declared.Seeding.{Seeding}
 use Rattle.gate.specs.declared.VisionGateState.{VisionGateState}
 use Rattle.gate.specs.declared.VisionGateState.the-variants as Gate

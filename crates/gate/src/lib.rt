@@ -1,13 +1,13 @@
 // The gate of `update_state_estimate`: which sightings are taken.
 ghost use mathlib.Core.Path.{_≡_};
 ghost use Rattle.gate.specs.Gate.{seedingJudged, trackingJudged, judged};
-use controller_params::VISION_GATE_BASE_RADIUS_M;
-use controller_params::VISION_GATE_EXPAND_RATE_M_PER_S;
-use controller_params::VISION_SEED_SAMPLES;
 use float_hypot::hypot;
 use gate_action::GateAction;
-use linear::Vector3f;
-use linear::Vector6f;
+use na::Vector3f;
+use na::Vector6f;
+use params::VISION_GATE_BASE_RADIUS_M;
+use params::VISION_GATE_EXPAND_RATE_M_PER_S;
+use params::VISION_SEED_SAMPLES;
 use seeding::Seeding;
 
 pub enum VisionGateState {

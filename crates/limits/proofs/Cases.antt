@@ -3,8 +3,8 @@ use mathlib.Core.Path.{_≡_, refl}
 use mathlib.Core.Bool.{true, false}
 use lib.Ieee.{nan, binary32, ofBits, lt, eq, ne, neg}
 use Rattle.float_clamp.specs.Clamp.{clampWithin}
-use Rattle.linear.specs.declared.Vector3f.{Vector3f}
-use Rattle.linear.specs.Vector.{zeroFloat}
+use Rattle.na.specs.declared.Vector3f.{Vector3f}
+use Rattle.na.specs.Vector.{zeroFloat}
 use Rattle.limits.specs.Limits.{clampedTo, twistClamped}
 
 -- x and y at 10.0, the heading's at 5.0·TAU

@@ -6,8 +6,8 @@ use mathlib.Core.Bool.{Bool, true, false, not, _||_, true≢false}
 use lib.Dec.{T}
 use lib.Ieee.{Float, nan, lt, le, eq, ne, neg, ofBits}
 use Rattle.float_clamp.proofs.Laws.{clampWithin-within}
-use Rattle.linear.specs.declared.Vector3f.{Vector3f}
-use Rattle.controller_params.specs.Params.{bodyAccelClampLinear, bodyAccelClampAngular, bodyVelClampLinear, bodyVelClampAngular}
+use Rattle.na.specs.declared.Vector3f.{Vector3f}
+use Rattle.params.specs.Params.{bodyAccelClampLinear, bodyAccelClampAngular, bodyVelClampLinear, bodyVelClampAngular}
 use Rattle.limits.specs.Limits.{clampedTo, twistClamped, accelClamped}
 
 -- NaN, or between -bound and bound

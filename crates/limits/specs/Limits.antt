@@ -2,8 +2,8 @@
 use mathlib.Core.Bool.{Bool, _||_}
 use lib.Ieee.{Float, ne}
 use Rattle.float_clamp.specs.Clamp.{clampWithin}
-use Rattle.linear.specs.declared.Vector3f.{Vector3f}
-use Rattle.controller_params.specs.Params.{bodyAccelClampLinear, bodyAccelClampAngular, bodyVelClampLinear, bodyVelClampAngular}
+use Rattle.na.specs.declared.Vector3f.{Vector3f}
+use Rattle.params.specs.Params.{bodyAccelClampLinear, bodyAccelClampAngular, bodyVelClampLinear, bodyVelClampAngular}
 use Rattle.limits.specs.declared.Clamped.{Clamped}
 
 -- the entries within their bounds, as `f32::clamp` has them, which keeps NaN

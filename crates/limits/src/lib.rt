@@ -1,12 +1,12 @@
 // Document 01, 'Steer' and 'Finish': the clamps of twist and acceleration.
 ghost use mathlib.Core.Path.{_≡_};
 ghost use Rattle.limits.specs.Limits.{clampedTo, twistClamped, accelClamped};
-use controller_params::BODY_ACCEL_CLAMP_ANGULAR;
-use controller_params::BODY_ACCEL_CLAMP_LINEAR;
-use controller_params::BODY_VEL_CLAMP_ANGULAR;
-use controller_params::BODY_VEL_CLAMP_LINEAR;
 use float_clamp::clamp_within;
-use linear::Vector3f;
+use na::Vector3f;
+use params::BODY_ACCEL_CLAMP_ANGULAR;
+use params::BODY_ACCEL_CLAMP_LINEAR;
+use params::BODY_VEL_CLAMP_ANGULAR;
+use params::BODY_VEL_CLAMP_LINEAR;
 
 // A vector within its bounds, and document 01's clamp mark: an entry is not equal to the one given.
 pub struct Clamped {

@@ -4,13 +4,13 @@ use mathlib.Core.Path.{_≡_, refl}
 use mathlib.Core.Bool.{Bool, true, false, cond}
 use borrow.Author.Tests.{eq-eqb}
 use lib.Dec.{eqb}
-use Rattle.linear.specs.declared.Vector6f.{Vector6f}
-use Rattle.commands.specs.declared.ManeuverCommand.{ManeuverCommand}
-use Rattle.plan_memory.specs.declared.Sample.{Sample}
-use Rattle.plan_memory.specs.declared.HeldSample.the-variants.{Held}
-use Rattle.plan_memory.specs.declared.Memory.{Memory}
+use Rattle.na.specs.declared.Vector6f.{Vector6f}
+use Rattle.cmd.specs.declared.ManeuverCommand.{ManeuverCommand}
+use Rattle.memory.specs.declared.Sample.{Sample}
+use Rattle.memory.specs.declared.HeldSample.the-variants.{Held}
+use Rattle.memory.specs.declared.Memory.{Memory}
 use Rattle.plan_answer.specs.declared.PlanAnswer.the-variants.{Hold, NoVision, Keep, NewPlan}
-use Rattle.plan_memory.specs.Memory.{emptyMemory}
+use Rattle.memory.specs.Memory.{emptyMemory}
 use Rattle.maneuvers.specs.Plan.{holds, hold, inMode, plansAnew, seedOf, maneuverAnswer, decided}
 
 module _ (mode : ℕ) (halt recovering vision : Bool) (cmd : ManeuverCommand) (m : Memory) (prev : ℕ) (estimate : Vector6f) where

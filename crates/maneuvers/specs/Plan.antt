@@ -2,16 +2,16 @@
 use Prim.Native.Nat.{ℕ}
 use mathlib.Core.Bool.{Bool, true, false, cond, not, _||_}
 use lib.Dec.{eqb, ltb}
-use Rattle.linear.specs.declared.Vector6f.{Vector6f}
-use Rattle.commands.specs.declared.ManeuverCommand.{ManeuverCommand}
-use Rattle.plan_memory.specs.declared.HeldSample.{HeldSample}
-use Rattle.plan_memory.specs.declared.HeldSample.the-variants.{Absent, Held}
-use Rattle.plan_memory.specs.declared.Memory.{Memory}
+use Rattle.na.specs.declared.Vector6f.{Vector6f}
+use Rattle.cmd.specs.declared.ManeuverCommand.{ManeuverCommand}
+use Rattle.memory.specs.declared.HeldSample.{HeldSample}
+use Rattle.memory.specs.declared.HeldSample.the-variants.{Absent, Held}
+use Rattle.memory.specs.declared.Memory.{Memory}
 use Rattle.plan_answer.specs.declared.PlanAnswer.{PlanAnswer}
 use Rattle.plan_answer.specs.declared.PlanAnswer.the-variants.{Hold, NoVision, Keep, NewPlan}
 use Rattle.maneuvers.specs.declared.Decision.{Decision}
-use Rattle.commands.specs.Command.{isMode}
-use Rattle.plan_memory.specs.Memory.{emptyMemory}
+use Rattle.cmd.specs.Command.{isMode}
+use Rattle.memory.specs.Memory.{emptyMemory}
 use Rattle.command_equality.specs.Equality.{commandChanged}
 
 -- hold if halt, recovering, or mode 0 or 1. A number that is no mode holds too, so that there is an answer: callers refuse it first, with 4

@@ -2,12 +2,12 @@
 ghost use mathlib.Core.Path.{_≡_};
 ghost use Rattle.maneuvers.specs.Plan.{inMode, maneuverAnswer, decided, numberDecided};
 ghost use Rattle.plan_answer.specs.Answer.{answerNumber};
+use cmd::ManeuverCommand;
 use command_equality::command_changed;
-use commands::ManeuverCommand;
-use linear::Vector6f;
+use memory::HeldSample;
+use memory::Memory;
+use na::Vector6f;
 use plan_answer::PlanAnswer;
-use plan_memory::HeldSample;
-use plan_memory::Memory;
 
 // An answer, beside the memory and the previous mode that plan leaves.
 pub struct Decision {

@@ -1,10 +1,10 @@
 -- The product of a matrix and a vector: each entry is a row's dot product with the vector. Assumes nothing.
-use Rattle.linear.specs.declared.Vector3f.{Vector3f}
-use Rattle.linear.specs.declared.Vector4f.{Vector4f}
+use Rattle.na.specs.declared.Vector3f.{Vector3f}
+use Rattle.na.specs.declared.Vector4f.{Vector4f}
 use Rattle.matrices.specs.declared.Matrix3.{Matrix3}
 use Rattle.matrices.specs.declared.Matrix3x4.{Matrix3x4}
 use Rattle.matrices.specs.declared.Matrix4x3.{Matrix4x3}
-use Rattle.linear.specs.Vector.{entries3, entries4, dotOf}
+use Rattle.na.specs.Vector.{entries3, entries4, dotOf}
 
 unfoldable pub productOf3 : Matrix3 → Vector3f → Vector3f
 productOf3 m v = record {

@@ -1,8 +1,8 @@
 -- Rotation by a given cosine and sine, document 01, 'Stand-ins'. Assumes nothing.
 use lib.Ieee.{Float, binary32, neg, ofBits}
-use Rattle.linear.specs.declared.Vector3f.{Vector3f}
+use Rattle.na.specs.declared.Vector3f.{Vector3f}
 use Rattle.matrices.specs.declared.Matrix3.{Matrix3}
-use Rattle.linear.specs.Vector.{zeroFloat}
+use Rattle.na.specs.Vector.{zeroFloat}
 use Rattle.matrices.specs.Matrix.{productOf3}
 
 -- 1.0

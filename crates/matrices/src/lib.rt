@@ -3,8 +3,8 @@
 pub mod matrix; // matrix.rt: matrices by rows, and their products with a vector
 pub mod rotation; // rotation.rt: a vector turned to global and to local axes
 
-use linear::Vector3f;
-use linear::Vector4f;
+use na::Vector3f;
+use na::Vector4f;
 
 pub struct Matrix3 {
     pub r0: Vector3f,

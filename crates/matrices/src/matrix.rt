@@ -5,8 +5,8 @@ ghost use Rattle.matrices.specs.Matrix.{productOf3, productOf3x4, produc
 use crate::Matrix3;
 use crate::Matrix3x4;
 use crate::Matrix4x3;
-use linear::Vector3f;
-use linear::Vector4f;
+use na::Vector3f;
+use na::Vector4f;
 use vectors::dot3;
 use vectors::dot4;
 

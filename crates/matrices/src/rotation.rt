@@ -2,7 +2,7 @@
 ghost use mathlib.Core.Path.{_≡_};
 ghost use Rattle.matrices.specs.Rotation.{toGlobal, toLocal};
 use crate::Matrix3;
-use linear::Vector3f;
+use na::Vector3f;
 
 // v turned from local axes to global ones, by `z_rotation_mat` of the angle with this cosine and sine.
 pub fn rotate_to_global(c: f32, s: f32, v: Vector3f) -> Vector3f

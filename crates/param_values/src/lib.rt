@@ -1,34 +1,34 @@
-// Every constant of `controller_params`, in that file's order. The contracts tie each to its bits in
+// Every constant of `params`, in that file's order. The contracts tie each to its bits in
 // the crate's specs/.
 ghost use mathlib.Core.Path.{_≡_};
-ghost use Rattle.controller_params.specs.Params.{trackingValues, limitValues, countValues};
-use controller_params::ANGULAR_POSE_PID_GAINS;
-use controller_params::BODY_ACCEL_CLAMP_ANGULAR;
-use controller_params::BODY_ACCEL_CLAMP_LINEAR;
-use controller_params::BODY_VEL_CLAMP_ANGULAR;
-use controller_params::BODY_VEL_CLAMP_LINEAR;
-use controller_params::BRAKE_ANTI_JITTER_RADS;
-use controller_params::BRAKE_KP;
-use controller_params::BRAKE_MAX_CURRENT_A;
-use controller_params::ENC_LAG_K;
-use controller_params::ENC_LAG_T_HORIZON;
-use controller_params::ENC_LAG_T_SLOPE;
-use controller_params::FRICTION_COMP_GATING;
-use controller_params::LINEAR_POSE_PID_GAINS;
-use controller_params::POSE_ACCEL_FEEDBACK_GAIN;
-use controller_params::POSE_PID_ANTI_JITTER_THRESH;
-use controller_params::POSE_VEL_FEEDFORWARD_GAIN;
-use controller_params::STOP_STATE_LINEAR_SPEED_LIMIT;
-use controller_params::T_MIN_DEFAULT;
-use controller_params::TRACKING_DIVERGENCE_RECOVERY_REST_TICKS;
-use controller_params::TRACKING_DIVERGENCE_RECOVERY_REST_WHEEL_VEL;
-use controller_params::TRACKING_ERROR_THRESHOLD;
-use controller_params::VISION_ACTIVE_TIMEOUT_S;
-use controller_params::VISION_CLOCK_START_S;
-use controller_params::VISION_GATE_BASE_RADIUS_M;
-use controller_params::VISION_GATE_EXPAND_RATE_M_PER_S;
-use controller_params::VISION_SEED_POS_STD_THRESH_M;
-use controller_params::VISION_SEED_SAMPLES;
+ghost use Rattle.params.specs.Params.{trackingValues, limitValues, countValues};
+use params::ANGULAR_POSE_PID_GAINS;
+use params::BODY_ACCEL_CLAMP_ANGULAR;
+use params::BODY_ACCEL_CLAMP_LINEAR;
+use params::BODY_VEL_CLAMP_ANGULAR;
+use params::BODY_VEL_CLAMP_LINEAR;
+use params::BRAKE_ANTI_JITTER_RADS;
+use params::BRAKE_KP;
+use params::BRAKE_MAX_CURRENT_A;
+use params::ENC_LAG_K;
+use params::ENC_LAG_T_HORIZON;
+use params::ENC_LAG_T_SLOPE;
+use params::FRICTION_COMP_GATING;
+use params::LINEAR_POSE_PID_GAINS;
+use params::POSE_ACCEL_FEEDBACK_GAIN;
+use params::POSE_PID_ANTI_JITTER_THRESH;
+use params::POSE_VEL_FEEDFORWARD_GAIN;
+use params::STOP_STATE_LINEAR_SPEED_LIMIT;
+use params::T_MIN_DEFAULT;
+use params::TRACKING_DIVERGENCE_RECOVERY_REST_TICKS;
+use params::TRACKING_DIVERGENCE_RECOVERY_REST_WHEEL_VEL;
+use params::TRACKING_ERROR_THRESHOLD;
+use params::VISION_ACTIVE_TIMEOUT_S;
+use params::VISION_CLOCK_START_S;
+use params::VISION_GATE_BASE_RADIUS_M;
+use params::VISION_GATE_EXPAND_RATE_M_PER_S;
+use params::VISION_SEED_POS_STD_THRESH_M;
+use params::VISION_SEED_SAMPLES;
 
 // Gains, thresholds and gates.
 pub fn tracking_values() -> [f32; 23]

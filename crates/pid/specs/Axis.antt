@@ -4,7 +4,7 @@ use mathlib.Core.Bool.{cond, _&&_}
 use lib.Ieee.{Float, binary32, ofBits, add, sub, mul, div, lt}
 use Rattle.float_bits.specs.Magnitude.{magnitude}
 use Rattle.float_clamp.specs.Clamp.{clampBetween}
-use Rattle.controller_params.specs.declared.PidGains.{PidGains}
+use Rattle.params.specs.declared.PidGains.{PidGains}
 use Rattle.pid.specs.declared.AntiJitterThresh.{AntiJitterThresh}
 use Rattle.pid.specs.declared.AntiJitterThresh.the-variants as Thresh
 use Rattle.pid.specs.declared.OutputLimits.{OutputLimits}

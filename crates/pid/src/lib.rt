@@ -1,9 +1,9 @@
 // pid.rs: a PID controller by value, for one axis.
 ghost use mathlib.Core.Path.{_≡_};
 ghost use Rattle.pid.specs.Axis.{antiJitter, limited, calculated, calculatedWithDerivative, resetOf, newController};
-use controller_params::PidGains;
 use float_bits::abs;
 use float_clamp::clamp;
+use params::PidGains;
 
 // The error below which the output is scaled toward zero, if there is one.
 pub enum AntiJitterThresh {

@@ -2,8 +2,8 @@
 use mathlib.Core.Path.{_≡_, refl}
 use mathlib.Core.List.{map}
 use lib.Ieee.{Float}
-use Rattle.linear.specs.declared.Vector4f.{Vector4f}
-use Rattle.linear.specs.Vector.{entries4}
+use Rattle.na.specs.declared.Vector4f.{Vector4f}
+use Rattle.na.specs.Vector.{entries4}
 use Rattle.pid_four.specs.declared.PidController4.{PidController4}
 use Rattle.pid.specs.Axis.{resetOf}
 use Rattle.pid.specs.Axes.{asks, asksWithDerivative, answers}

@@ -1,7 +1,7 @@
 -- The controller of four axes: each axis answers its own entries. That this is the list of `Axes.antt` at length four is a law. Assumes nothing.
 use mathlib.Core.List.{List, [], _∷_}
 use lib.Ieee.{Float}
-use Rattle.linear.specs.declared.Vector4f.{Vector4f}
+use Rattle.na.specs.declared.Vector4f.{Vector4f}
 use Rattle.pid.specs.declared.PidController.{PidController}
 use Rattle.pid.specs.declared.PidAnswer.{PidAnswer}
 use Rattle.pid_four.specs.declared.PidController4.{PidController4}

@@ -1,7 +1,7 @@
 // pid.rs, `PidController<4>`: one controller of `pid` for each entry of a vector.
 ghost use mathlib.Core.Path.{_≡_};
 ghost use Rattle.pid_four.specs.Four.{joined4, calculated4, calculatedWithDerivative4, reset4};
-use linear::Vector4f;
+use na::Vector4f;
 use pid::PidAnswer;
 use pid::PidController;
 

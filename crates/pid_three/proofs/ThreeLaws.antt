@@ -2,8 +2,8 @@
 use mathlib.Core.Path.{_≡_, refl}
 use mathlib.Core.List.{map}
 use lib.Ieee.{Float}
-use Rattle.linear.specs.declared.Vector3f.{Vector3f}
-use Rattle.linear.specs.Vector.{entries3}
+use Rattle.na.specs.declared.Vector3f.{Vector3f}
+use Rattle.na.specs.Vector.{entries3}
 use Rattle.pid_three.specs.declared.PidController3.{PidController3}
 use Rattle.pid.specs.Axis.{resetOf}
 use Rattle.pid.specs.Axes.{asks, asksWithDerivative, answers}

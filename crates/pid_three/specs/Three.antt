@@ -1,7 +1,7 @@
 -- The controller of three axes: each axis answers its own entries. That this is the list of `Axes.antt` at length three is a law. Assumes nothing.
 use mathlib.Core.List.{List, [], _∷_}
 use lib.Ieee.{Float}
-use Rattle.linear.specs.declared.Vector3f.{Vector3f}
+use Rattle.na.specs.declared.Vector3f.{Vector3f}
 use Rattle.pid.specs.declared.PidController.{PidController}
 use Rattle.pid.specs.declared.PidAnswer.{PidAnswer}
 use Rattle.pid_three.specs.declared.PidController3.{PidController3}

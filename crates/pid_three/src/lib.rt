@@ -1,7 +1,7 @@
 // pid.rs, `PidController<3>`: one controller of `pid` for each entry of a vector.
 ghost use mathlib.Core.Path.{_≡_};
 ghost use Rattle.pid_three.specs.Three.{joined3, calculated3, calculatedWithDerivative3, reset3};
-use linear::Vector3f;
+use na::Vector3f;
 use pid::PidAnswer;
 use pid::PidController;
 

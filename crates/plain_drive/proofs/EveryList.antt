@@ -16,19 +16,19 @@ use Rattle.gate.specs.declared.VisionGateState.{VisionGateState}
 use Rattle.gate.specs.declared.VisionGateState.the-variants.{Seeding, Tracking}
 use Rattle.gate_action.specs.Outcome.{takes}
 use Rattle.gate.specs.Gate.{distance}
-use Rattle.vision_gate.specs.Vision.{active, newVision}
-use Rattle.plan_memory.specs.Memory.{emptyMemory}
-use Rattle.vision_gate.proofs.Outcomes.{Small}
-use Rattle.vision_gate.proofs.Held.{Held, held-active, unheld-inactive, held-widens}
+use Rattle.vision.specs.Vision.{active, newVision}
+use Rattle.memory.specs.Memory.{emptyMemory}
+use Rattle.vision.proofs.Outcomes.{Small}
+use Rattle.vision.proofs.Held.{Held, held-active, unheld-inactive, held-widens}
 use Rattle.body_controller.specs.declared.BodyController.{BodyController}
 use Rattle.body_controller.specs.declared.Choices.{Choices}
 use Rattle.body_controller.specs.declared.NewAnswer.the-variants as New
-use Rattle.call_inputs.specs.declared.SightInput.{SightInput}
+use Rattle.inputs.specs.declared.SightInput.{SightInput}
 use Rattle.body_controller.specs.declared.SightResult.{SightResult}
-use Rattle.tick_parts.specs.declared.Refusal.the-variants.{OutOfTurn, TickLimit}
+use Rattle.tick.specs.declared.Refusal.the-variants.{OutOfTurn, TickLimit}
 use Rattle.body_controller.specs.Turn.{isSight}
-use Rattle.tick_parts.specs.Counts.{noCounts, countList}
-use Rattle.control_context.specs.Context as Context
+use Rattle.tick.specs.Counts.{noCounts, countList}
+use Rattle.context.specs.Context as Context
 use Rattle.context_sight.specs.Sight as ContextSight
 use Rattle.body_controller.specs.Controller.{started, madeFrom, newOf, newNumber, resetOf}
 use Rattle.call_answers.specs.Sight.{sightAnswer}

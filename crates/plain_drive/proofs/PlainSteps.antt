@@ -7,16 +7,16 @@ use mathlib.Core.Bool.{Bool, true, false, cond, not, _&&_, _||_, and-not-self}
 use borrow.Author.Tests.{ltb-true}
 use lib.Dec.{ltb}
 use lib.Ieee.{Float}
-use Rattle.linear.specs.declared.Vector4f.{Vector4f}
-use Rattle.linear.specs.declared.Vector6f.{Vector6f}
-use Rattle.controller_params.specs.Params.{visionClockStartS}
+use Rattle.na.specs.declared.Vector4f.{Vector4f}
+use Rattle.na.specs.declared.Vector6f.{Vector6f}
+use Rattle.params.specs.Params.{visionClockStartS}
 use Rattle.gate.specs.declared.VisionGateState.the-variants.{Seeding}
 use Rattle.seeding.specs.Seeding.{freshSeeding}
-use Rattle.commands.specs.declared.ManeuverCommand.{ManeuverCommand}
-use Rattle.commands.specs.declared.CommandAnswer.{CommandAnswer}
-use Rattle.commands.specs.declared.CommandAnswer.the-variants as Command
+use Rattle.cmd.specs.declared.ManeuverCommand.{ManeuverCommand}
+use Rattle.cmd.specs.declared.CommandAnswer.{CommandAnswer}
+use Rattle.cmd.specs.declared.CommandAnswer.the-variants as Command
 use Rattle.plan_answer.specs.declared.PlanAnswer.{PlanAnswer}
-use Rattle.commands.specs.Command.{commandFrom}
+use Rattle.cmd.specs.Command.{commandFrom}
 use Rattle.divergence.specs.declared.TrackingDivergenceState.{TrackingDivergenceState}
 use Rattle.divergence.specs.declared.TrackingDivergenceState.the-variants.{Normal, Recovering}
 use Rattle.recovery.specs.declared.HeldState.{HeldState}
@@ -24,10 +24,10 @@ use Rattle.recovery.specs.declared.RecoveryAnswer.{RecoveryAnswer}
 use Rattle.divergence.specs.Divergence.{isRecovering}
 use Rattle.tracking_limits.specs.Limits.{atRest}
 use Rattle.recovery.specs.Recovery.{trackingErrorExceeded, recovery}
-use Rattle.call_inputs.specs.declared.SightInput.{SightInput}
-use Rattle.call_inputs.specs.declared.PlanInput.{PlanInput}
-use Rattle.call_inputs.specs.declared.SteerInput.{SteerInput}
-use Rattle.call_inputs.specs.declared.FinishInput.{FinishInput}
+use Rattle.inputs.specs.declared.SightInput.{SightInput}
+use Rattle.inputs.specs.declared.PlanInput.{PlanInput}
+use Rattle.inputs.specs.declared.SteerInput.{SteerInput}
+use Rattle.inputs.specs.declared.FinishInput.{FinishInput}
 use Rattle.plain_drive.specs.Calls.{Call, sight, plan, steer, finish, reset, accepted, refused, isTick, took, isReset}
 use Rattle.plain_drive.specs.PlainDrive.{DriveTurn, toSight, toPlan, toSteer, toFinish, DriveState, Step, turnedAway, seen, onSight, decidedOn, closed, onCommand, onPlan, onReset, cleared, anew, unplanned, followed, judgedState, turnedTo, steeredBy, onSteer, onFinish, step}
 

@@ -7,33 +7,33 @@ use mathlib.Core.Bool.{Bool, true, false, cond}
 use borrow.Author.Tests.{eqb-true, eqb-false, le-ltb}
 use lib.Dec.{eqb, ltb}
 use lib.Ieee.{Float}
-use Rattle.linear.specs.declared.Vector4f.{Vector4f}
+use Rattle.na.specs.declared.Vector4f.{Vector4f}
 use Rattle.tick_length.specs.TickLength.{secondsOf}
 use Rattle.gate_action.specs.declared.GateAction.{GateAction}
 use Rattle.gate_action.specs.declared.GateAction.the-variants.{NoVision, Accumulate, SeedComplete, SeedReset, Accept, AcceptJump, FirstReject, Reject}
 use Rattle.gate_action.specs.Outcome.{overwrites, numberOf}
-use Rattle.vision_gate.specs.Vision.{newVision, visionAfter}
-use Rattle.commands.specs.declared.CommandAnswer.{CommandAnswer}
-use Rattle.commands.specs.declared.CommandAnswer.the-variants as Command
-use Rattle.plan_memory.specs.declared.Memory.{Memory}
-use Rattle.plan_memory.specs.declared.HeldSample.the-variants as Samples
-use Rattle.plan_memory.specs.declared.PrevCommand.the-variants as Prev
+use Rattle.vision.specs.Vision.{newVision, visionAfter}
+use Rattle.cmd.specs.declared.CommandAnswer.{CommandAnswer}
+use Rattle.cmd.specs.declared.CommandAnswer.the-variants as Command
+use Rattle.memory.specs.declared.Memory.{Memory}
+use Rattle.memory.specs.declared.HeldSample.the-variants as Samples
+use Rattle.memory.specs.declared.PrevCommand.the-variants as Prev
 use Rattle.plan_answer.specs.declared.PlanAnswer.{PlanAnswer}
 use Rattle.plan_answer.specs.declared.PlanAnswer.the-variants as Answers
-use Rattle.commands.specs.Command.{commandFrom}
-use Rattle.plan_memory.specs.Memory.{emptyMemory, trajectoryDropped, afterTracking}
+use Rattle.cmd.specs.Command.{commandFrom}
+use Rattle.memory.specs.Memory.{emptyMemory, trajectoryDropped, afterTracking}
 use Rattle.recovery.specs.Recovery.{recovery}
 use Rattle.body_controller.specs.declared.BodyController.{BodyController}
-use Rattle.tick_parts.specs.declared.Counts.{Counts}
-use Rattle.call_inputs.specs.declared.SightInput.{SightInput}
-use Rattle.call_inputs.specs.declared.PlanInput.{PlanInput}
-use Rattle.call_inputs.specs.declared.SteerInput.{SteerInput}
-use Rattle.call_inputs.specs.declared.FinishInput.{FinishInput}
+use Rattle.tick.specs.declared.Counts.{Counts}
+use Rattle.inputs.specs.declared.SightInput.{SightInput}
+use Rattle.inputs.specs.declared.PlanInput.{PlanInput}
+use Rattle.inputs.specs.declared.SteerInput.{SteerInput}
+use Rattle.inputs.specs.declared.FinishInput.{FinishInput}
 use Rattle.call_answers.specs.declared.Steered.{Steered}
-use Rattle.tick_parts.specs.Counts.{counted, countList}
-use Rattle.control_context.specs.declared.ControlContext.{ControlContext}
+use Rattle.tick.specs.Counts.{counted, countList}
+use Rattle.context.specs.declared.ControlContext.{ControlContext}
 use Rattle.context_steer.specs.declared.Tracked.{Tracked}
-use Rattle.control_context.specs.Context as Context
+use Rattle.context.specs.Context as Context
 use Rattle.context_sight.specs.Sight as ContextSight
 use Rattle.context_plan.specs.Plan as ContextPlan
 use Rattle.context_steer.specs.Steer as Tracking

@@ -12,13 +12,13 @@ use lib.ListN.{length}
 use Rattle.tick_length.specs.TickLength.{secondsOf}
 use Rattle.gate_action.specs.declared.GateAction.{GateAction}
 use Rattle.gate_action.specs.declared.GateAction.the-variants.{NoVision, Accumulate, SeedComplete, SeedReset, Accept, AcceptJump, FirstReject, Reject}
-use Rattle.vision_gate.specs.declared.Vision.{Vision}
+use Rattle.vision.specs.declared.Vision.{Vision}
 use Rattle.gate_action.specs.Outcome.{takes, numberOf}
 use Rattle.gate.specs.Gate.{judged}
-use Rattle.vision_gate.specs.Vision.{visionAfter}
-use Rattle.vision_gate.proofs.Outcomes.{Small, fresh-small, stays-small, Seeds, refused-seeds}
-use Rattle.vision_gate.proofs.Held.{Held, Unheld, taken-held, held-waits, unheld-waits}
-use Rattle.call_inputs.specs.declared.SightInput.{SightInput}
+use Rattle.vision.specs.Vision.{visionAfter}
+use Rattle.vision.proofs.Outcomes.{Small, fresh-small, stays-small, Seeds, refused-seeds}
+use Rattle.vision.proofs.Held.{Held, Unheld, taken-held, held-waits, unheld-waits}
+use Rattle.inputs.specs.declared.SightInput.{SightInput}
 use Rattle.plain_drive.specs.Calls.{Call, isTick, took}
 use Rattle.plain_drive.specs.PlainDrive.{DriveState, Step, start, grown, seen, step, driven, drivenReplies, resetsAfter}
 use Rattle.plain_drive.specs.EveryList.{Entry, callsOf, repliesOf, ticksIn, since, holding, total}

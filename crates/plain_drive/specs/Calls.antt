@@ -4,10 +4,10 @@ use mathlib.Core.Bool.{Bool, true, false}
 use Rattle.gate_action.specs.declared.GateAction.{GateAction}
 use Rattle.gate_action.specs.Outcome.{takes}
 use Rattle.plan_answer.specs.declared.PlanAnswer.{PlanAnswer}
-use Rattle.call_inputs.specs.declared.SightInput.{SightInput}
-use Rattle.call_inputs.specs.declared.PlanInput.{PlanInput}
-use Rattle.call_inputs.specs.declared.SteerInput.{SteerInput}
-use Rattle.call_inputs.specs.declared.FinishInput.{FinishInput}
+use Rattle.inputs.specs.declared.SightInput.{SightInput}
+use Rattle.inputs.specs.declared.PlanInput.{PlanInput}
+use Rattle.inputs.specs.declared.SteerInput.{SteerInput}
+use Rattle.inputs.specs.declared.FinishInput.{FinishInput}
 
 -- a call, with its inputs
 pub data Call : Type 0 where

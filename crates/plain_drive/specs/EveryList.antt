@@ -10,10 +10,10 @@ use lib.Ieee.{Float, binary32, le, ofInt}
 use Rattle.gate.specs.declared.VisionGateState.{VisionGateState}
 use Rattle.gate.specs.declared.VisionGateState.the-variants.{Seeding, Tracking}
 use Rattle.gate.specs.Gate.{distance}
-use Rattle.vision_gate.specs.Vision.{active}
+use Rattle.vision.specs.Vision.{active}
 use Rattle.body_controller.specs.declared.BodyController.{BodyController}
 use Rattle.body_controller.specs.declared.NewAnswer.the-variants as New
-use Rattle.call_inputs.specs.declared.SightInput.{SightInput}
+use Rattle.inputs.specs.declared.SightInput.{SightInput}
 use Rattle.body_controller.specs.declared.SightAnswer.{SightAnswer}
 use Rattle.body_controller.specs.declared.SightAnswer.the-variants as Sights
 use Rattle.body_controller.specs.declared.SightResult.{SightResult}
@@ -26,9 +26,9 @@ use Rattle.body_controller.specs.declared.SteerResult.{SteerResult}
 use Rattle.body_controller.specs.declared.FinishAnswer.{FinishAnswer}
 use Rattle.body_controller.specs.declared.FinishAnswer.the-variants as Finishes
 use Rattle.body_controller.specs.declared.FinishResult.{FinishResult}
-use Rattle.control_context.specs.declared.Planned.{Planned}
-use Rattle.tick_parts.specs.Refusal.{refusalNumber}
-use Rattle.tick_parts.specs.Counts.{countList}
+use Rattle.context.specs.declared.Planned.{Planned}
+use Rattle.tick.specs.Refusal.{refusalNumber}
+use Rattle.tick.specs.Counts.{countList}
 use Rattle.body_controller.specs.Turn.{isSight, isPlan, isSteer}
 use Rattle.body_controller.specs.Controller.{newOf, resetOf}
 use Rattle.body_controller.specs.Sight.{sightOf}

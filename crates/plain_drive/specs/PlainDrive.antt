@@ -6,26 +6,26 @@ use mathlib.Core.Bool.{Bool, true, false, cond, not, _&&_, _||_}
 use mathlib.Core.List.{List, [], _∷_}
 use lib.Dec.{ltb}
 use lib.Ieee.{Float}
-use Rattle.linear.specs.declared.Vector6f.{Vector6f}
-use Rattle.linear.specs.Vector.{zeros6}
-use Rattle.controller_params.specs.Params.{visionClockStartS}
+use Rattle.na.specs.declared.Vector6f.{Vector6f}
+use Rattle.na.specs.Vector.{zeros6}
+use Rattle.params.specs.Params.{visionClockStartS}
 use Rattle.tick_length.specs.TickLength.{secondsOf}
 use Rattle.gate.specs.declared.VisionGateState.{VisionGateState}
 use Rattle.gate.specs.declared.VisionGateState.the-variants.{Seeding}
 use Rattle.gate_action.specs.Outcome.{takes, overwrites, numberOf}
 use Rattle.seeding.specs.Seeding.{freshSeeding}
 use Rattle.gate.specs.Gate.{judged}
-use Rattle.vision_gate.specs.Vision.{active, clockAfter}
-use Rattle.commands.specs.declared.ManeuverCommand.{ManeuverCommand}
-use Rattle.commands.specs.declared.CommandAnswer.{CommandAnswer}
-use Rattle.commands.specs.declared.CommandAnswer.the-variants as Command
-use Rattle.plan_memory.specs.declared.HeldSample.{HeldSample}
-use Rattle.plan_memory.specs.declared.HeldSample.the-variants as Samples
-use Rattle.plan_memory.specs.declared.PrevCommand.{PrevCommand}
-use Rattle.plan_memory.specs.declared.PrevCommand.the-variants as Prev
+use Rattle.vision.specs.Vision.{active, clockAfter}
+use Rattle.cmd.specs.declared.ManeuverCommand.{ManeuverCommand}
+use Rattle.cmd.specs.declared.CommandAnswer.{CommandAnswer}
+use Rattle.cmd.specs.declared.CommandAnswer.the-variants as Command
+use Rattle.memory.specs.declared.HeldSample.{HeldSample}
+use Rattle.memory.specs.declared.HeldSample.the-variants as Samples
+use Rattle.memory.specs.declared.PrevCommand.{PrevCommand}
+use Rattle.memory.specs.declared.PrevCommand.the-variants as Prev
 use Rattle.plan_answer.specs.declared.PlanAnswer.{PlanAnswer}
 use Rattle.plan_answer.specs.declared.PlanAnswer.the-variants.{Hold, NoVision, Keep, NewPlan}
-use Rattle.commands.specs.Command.{commandFrom}
+use Rattle.cmd.specs.Command.{commandFrom}
 use Rattle.maneuvers.specs.Plan.{decided}
 use Rattle.divergence.specs.declared.TrackingDivergenceState.{TrackingDivergenceState}
 use Rattle.divergence.specs.declared.TrackingDivergenceState.the-variants.{Normal}
@@ -34,9 +34,9 @@ use Rattle.recovery.specs.declared.HeldState.the-variants as States
 use Rattle.recovery.specs.declared.RecoveryAnswer.{RecoveryAnswer}
 use Rattle.divergence.specs.Divergence.{isRecovering}
 use Rattle.recovery.specs.Recovery.{recovery}
-use Rattle.call_inputs.specs.declared.SightInput.{SightInput}
-use Rattle.call_inputs.specs.declared.PlanInput.{PlanInput}
-use Rattle.call_inputs.specs.declared.SteerInput.{SteerInput}
+use Rattle.inputs.specs.declared.SightInput.{SightInput}
+use Rattle.inputs.specs.declared.PlanInput.{PlanInput}
+use Rattle.inputs.specs.declared.SteerInput.{SteerInput}
 use Rattle.plain_drive.specs.Calls.{Call, sight, plan, steer, finish, reset, Reply, outcome, answer, accepted, refused, isReset}
 
 -- ---- 'State'

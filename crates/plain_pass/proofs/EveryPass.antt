@@ -6,18 +6,18 @@ use mathlib.Core.List.{List, [], _∷_, head-eq-of-cons-eq}
 use lib.Dec.{eqb}
 use Rattle.tick_length.specs.TickLength.{isTickLength, tickLengthOf}
 use Rattle.body_controller.specs.declared.BodyController.{BodyController}
-use Rattle.call_inputs.specs.declared.FinishInput.{FinishInput}
+use Rattle.inputs.specs.declared.FinishInput.{FinishInput}
 use Rattle.body_controller.specs.declared.FinishAnswer.{FinishAnswer}
 use Rattle.body_controller.specs.declared.FinishAnswer.the-variants as Finishes
-use Rattle.call_inputs.specs.declared.PlanInput.{PlanInput}
+use Rattle.inputs.specs.declared.PlanInput.{PlanInput}
 use Rattle.body_controller.specs.declared.PlanCallAnswer.{PlanCallAnswer}
 use Rattle.body_controller.specs.declared.PlanCallAnswer.the-variants as Plans
 use Rattle.body_controller.specs.declared.SightAnswer.{SightAnswer}
 use Rattle.body_controller.specs.declared.SightAnswer.the-variants as Sights
-use Rattle.call_inputs.specs.declared.SteerInput.{SteerInput}
+use Rattle.inputs.specs.declared.SteerInput.{SteerInput}
 use Rattle.body_controller.specs.declared.SteerAnswer.{SteerAnswer}
 use Rattle.body_controller.specs.declared.SteerAnswer.the-variants as Steers
-use Rattle.tick_parts.specs.Counts.{noCounts, countList}
+use Rattle.tick.specs.Counts.{noCounts, countList}
 use Rattle.body_controller.specs.Controller.{started, newOf}
 use Rattle.body_controller.specs.Sight.{sightOf}
 use Rattle.body_controller.specs.Plan.{planOf}

@@ -7,12 +7,12 @@ use mathlib.Core.List.{List, [], _∷_}
 use lib.Dec.{eqb}
 use Rattle.tick_length.specs.TickLength.{isTickLength, secondsOf}
 use Rattle.gate_action.specs.Outcome.{letterOf}
-use Rattle.vision_gate.specs.Vision.{active}
+use Rattle.vision.specs.Vision.{active}
 use Rattle.divergence.specs.Divergence.{isRecovering}
-use Rattle.call_inputs.specs.declared.FinishInput.{FinishInput}
-use Rattle.call_inputs.specs.declared.PlanInput.{PlanInput}
-use Rattle.call_inputs.specs.declared.SteerInput.{SteerInput}
-use Rattle.tick_parts.specs.Counts.{countList}
+use Rattle.inputs.specs.declared.FinishInput.{FinishInput}
+use Rattle.inputs.specs.declared.PlanInput.{PlanInput}
+use Rattle.inputs.specs.declared.SteerInput.{SteerInput}
+use Rattle.tick.specs.Counts.{countList}
 use Rattle.plain_drive.specs.Calls.{Call, sight, plan, steer, finish, Reply, outcome, answer, accepted, refused}
 use Rattle.plain_drive.specs.PlainDrive as Plain
 use Rattle.plain_drive.specs.EveryList.{Entry, callsOf, Holds}

@@ -1,7 +1,7 @@
 // Plan's four answers, and what each asks for.
 ghost use mathlib.Core.Path.{_≡_};
 ghost use Rattle.plan_answer.specs.Answer.{disablesWheels, needsPlan};
-use linear::Vector6f;
+use na::Vector6f;
 
 // Plan's four answers, terms of document 01. A new plan has its seed.
 pub enum PlanAnswer {

@@ -2,9 +2,9 @@
 -- Assumes nothing.
 use mathlib.Core.Path.{_≡_, refl}
 use lib.Ieee.{Float}
-use Rattle.linear.specs.declared.Vector3f.{Vector3f}
-use Rattle.linear.specs.Vector.{zeros3}
-use Rattle.controller_params.specs.Params.{linearPosePidGains, angularPosePidGains, posePidAntiJitterThresh}
+use Rattle.na.specs.declared.Vector3f.{Vector3f}
+use Rattle.na.specs.Vector.{zeros3}
+use Rattle.params.specs.Params.{linearPosePidGains, angularPosePidGains, posePidAntiJitterThresh}
 use Rattle.pid.specs.declared.AntiJitterThresh.the-variants.{Below}
 use Rattle.pid.specs.declared.OutputLimits.the-variants.{Absent}
 use Rattle.pid.specs.Axis.{newController, resetOf}

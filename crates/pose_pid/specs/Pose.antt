@@ -1,5 +1,5 @@
 -- `pose_pid_controller` of control_context.rs as pid.rs's controller of three axes, from what it remembers and back. Assumes nothing.
-use Rattle.controller_params.specs.Params.{linearPosePidGains, angularPosePidGains, posePidAntiJitterThresh}
+use Rattle.params.specs.Params.{linearPosePidGains, angularPosePidGains, posePidAntiJitterThresh}
 use Rattle.pid_three.specs.declared.PidController3.{PidController3}
 use Rattle.setpoints.specs.declared.PidMemory.{PidMemory}
 use Rattle.tracking.specs.Setpoints.{poseAxis}

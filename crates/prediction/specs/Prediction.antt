@@ -1,9 +1,9 @@
 -- Document 01, 'Gate' and 'Stand-ins': what an outcome does to the six predicted numbers. Assumes nothing.
 use mathlib.Core.Bool.{cond}
 use lib.Ieee.{Float}
-use Rattle.linear.specs.declared.Vector3f.{Vector3f}
-use Rattle.linear.specs.declared.Vector4f.{Vector4f}
-use Rattle.linear.specs.declared.Vector6f.{Vector6f}
+use Rattle.na.specs.declared.Vector3f.{Vector3f}
+use Rattle.na.specs.declared.Vector4f.{Vector4f}
+use Rattle.na.specs.declared.Vector6f.{Vector6f}
 use Rattle.matrices.specs.declared.Matrix3x4.{Matrix3x4}
 use Rattle.matrices.specs.Matrix.{productOf3x4}
 use Rattle.gate_action.specs.declared.GateAction.{GateAction}

@@ -2,10 +2,10 @@
 ghost use mathlib.Core.Path.{_≡_};
 ghost use Rattle.prediction.specs.Prediction.{velocityOf, predictedAfter};
 use gate_action::GateAction;
-use linear::Vector3f;
-use linear::Vector4f;
-use linear::Vector6f;
 use matrices::Matrix3x4;
+use na::Vector3f;
+use na::Vector4f;
+use na::Vector6f;
 
 // The velocity that wheels and gyro measure.
 fn vel_seed(wheel2twist: Matrix3x4, wheels: Vector4f, gyro: f32) -> Vector3f

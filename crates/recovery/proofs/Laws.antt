@@ -1,8 +1,8 @@
 -- What recovery does where no sample is held. Assumes nothing.
 use mathlib.Core.Path.{_≡_, refl}
 use mathlib.Core.Bool.{false}
-use Rattle.linear.specs.declared.Vector4f.{Vector4f}
-use Rattle.linear.specs.declared.Vector6f.{Vector6f}
+use Rattle.na.specs.declared.Vector4f.{Vector4f}
+use Rattle.na.specs.declared.Vector6f.{Vector6f}
 use Rattle.divergence.specs.declared.TrackingDivergenceState.the-variants.{Normal}
 use Rattle.recovery.specs.declared.HeldState.the-variants.{Absent}
 use Rattle.recovery.specs.Recovery.{trackingErrorExceeded, recovery}

@@ -4,11 +4,11 @@ use lib.Ieee.{binary32}
 use Rattle.float_bits.specs.Magnitude.{magnitude}
 use Rattle.float_hypot.specs.Hypot.{hypotenuse}
 use Rattle.float_remainder.specs.Remainder.{remainderBy, tau}
-use Rattle.linear.specs.declared.Vector4f.{Vector4f}
-use Rattle.linear.specs.declared.Vector6f.{Vector6f}
-use Rattle.linear.specs.Vector.{differenceOf}
-use Rattle.controller_params.specs.declared.TrackingErrors.{TrackingErrors}
-use Rattle.controller_params.specs.Params.{trackingErrorThreshold}
+use Rattle.na.specs.declared.Vector4f.{Vector4f}
+use Rattle.na.specs.declared.Vector6f.{Vector6f}
+use Rattle.na.specs.Vector.{differenceOf}
+use Rattle.params.specs.declared.TrackingErrors.{TrackingErrors}
+use Rattle.params.specs.Params.{trackingErrorThreshold}
 use Rattle.divergence.specs.declared.TrackingDivergenceState.{TrackingDivergenceState}
 use Rattle.divergence.specs.declared.TrackingDivergenceState.the-variants.{Normal, Recovering}
 use Rattle.recovery.specs.declared.HeldState.{HeldState}

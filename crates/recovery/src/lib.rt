@@ -1,14 +1,14 @@
 // Document 01, 'Steer': the tracking error, and what recovery makes of it.
 ghost use mathlib.Core.Path.{_≡_};
 ghost use Rattle.recovery.specs.Recovery.{trackingErrors, trackingErrorExceeded, recovery};
-use controller_params::TRACKING_ERROR_THRESHOLD;
-use controller_params::TrackingErrors;
 use divergence::TrackingDivergenceState;
 use float_bits::abs;
 use float_hypot::hypot;
 use float_remainder::remainder;
-use linear::Vector4f;
-use linear::Vector6f;
+use na::Vector4f;
+use na::Vector6f;
+use params::TRACKING_ERROR_THRESHOLD;
+use params::TrackingErrors;
 use tracking_limits::any_exceeds;
 use tracking_limits::at_rest;
 use vectors::sub;

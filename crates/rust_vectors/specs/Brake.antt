@@ -1,7 +1,7 @@
 -- The list of the active brake: the answer to a call, and what is compared after it. Assumes nothing.
 use Prim.Native.Nat.{ℕ}
 use mathlib.Core.List.{List}
-use Rattle.linear.specs.Vector.{zeros4}
+use Rattle.na.specs.Vector.{zeros4}
 use Rattle.active_brake.specs.declared.ActiveBrakeController.{ActiveBrakeController}
 use Rattle.active_brake.specs.declared.BrakeAnswer.{BrakeAnswer}
 use Rattle.active_brake.specs.declared.BrakeMade.{BrakeMade}

@@ -5,7 +5,7 @@ use mathlib.Core.List.{List}
 use lib.Dec.{eqb}
 use lib.Ieee.{binary32, ofBits}
 use lib.ListN.{getD, set}
-use Rattle.linear.specs.Vector.{zeros2}
+use Rattle.na.specs.Vector.{zeros2}
 use Rattle.first_order_lag.specs.declared.FirstOrderLag.{FirstOrderLag}
 use Rattle.encoder_lag.specs.declared.FirstOrderLagAnswer.{FirstOrderLagAnswer}
 use Rattle.encoder_lag.specs.declared.FirstOrderLagAnswer.the-variants.{Made, Refused}

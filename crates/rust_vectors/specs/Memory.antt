@@ -3,7 +3,7 @@ use Prim.Native.Nat.{ℕ, _+_}
 use mathlib.Core.List.{List}
 use lib.Ieee.{Float, binary32, ofBits, toBits}
 use lib.ListN.{getD, set}
-use Rattle.linear.specs.declared.Vector4f.{Vector4f}
+use Rattle.na.specs.declared.Vector4f.{Vector4f}
 use Rattle.pid.specs.declared.PidController.{PidController}
 use Rattle.pid_four.specs.declared.PidController4.{PidController4}
 

@@ -4,8 +4,8 @@ use mathlib.Core.Bool.{cond}
 use mathlib.Core.List.{List}
 use lib.Dec.{eqb}
 use lib.ListN.{getD}
-use Rattle.linear.specs.Vector.{zeroFloat, zeros3, zeros4}
-use Rattle.controller_params.specs.declared.PidGains.{PidGains}
+use Rattle.na.specs.Vector.{zeroFloat, zeros3, zeros4}
+use Rattle.params.specs.declared.PidGains.{PidGains}
 use Rattle.pid.specs.declared.AntiJitterThresh.{AntiJitterThresh}
 use Rattle.pid.specs.declared.AntiJitterThresh.the-variants as Thresh
 use Rattle.pid.specs.declared.OutputLimits.{OutputLimits}

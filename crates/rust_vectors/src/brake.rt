@@ -9,7 +9,7 @@ use active_brake::BrakeAnswer;
 use active_brake::BrakeMade;
 use block_floats::vec4_at;
 use block_words::word_at;
-use linear::ZEROS_4;
+use na::ZEROS_4;
 
 // A call has its kind and the wheel speeds, and then what is compared. The last kind is reset, whose
 // currents are wanted as 0.

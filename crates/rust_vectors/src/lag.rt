@@ -9,8 +9,8 @@ use encoder_lag::new_from_horizon;
 use first_order_lag::FirstOrderLag;
 use float_bits::from_bits;
 use float_bits::to_bits;
-use linear::Vector2f;
-use linear::ZEROS_2;
+use na::Vector2f;
+use na::ZEROS_2;
 
 // What a call leaves: the lag after it, and the output.
 struct LagAnswer {

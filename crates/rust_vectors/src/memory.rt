@@ -4,7 +4,7 @@ ghost use Prim.Native.Nat.{_+_, _<_};
 ghost use Rattle.rust_vectors.specs.Memory.{withMemory, withMemory4, axisPut, fourPut};
 use float_bits::from_bits;
 use float_bits::to_bits;
-use linear::Vector4f;
+use na::Vector4f;
 use pid::PidController;
 use pid_four::PidController4;
 

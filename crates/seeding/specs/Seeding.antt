@@ -4,9 +4,9 @@ use mathlib.Core.Bool.{Bool, _&&_}
 use lib.IntN.{pos}
 use lib.Ieee.{Float, binary32, ofInt, add, sub, mul, div, lt}
 use Rattle.float_root.specs.Root.{squareRoot}
-use Rattle.linear.specs.declared.Vector3f.{Vector3f}
-use Rattle.linear.specs.Vector.{zeros2}
-use Rattle.controller_params.specs.Params.{visionSeedPosStdThreshM}
+use Rattle.na.specs.declared.Vector3f.{Vector3f}
+use Rattle.na.specs.Vector.{zeros2}
+use Rattle.params.specs.Params.{visionSeedPosStdThreshM}
 use Rattle.seeding.specs.declared.Seeding.{Seeding}
 
 -- a fresh seeding

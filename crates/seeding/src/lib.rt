@@ -1,11 +1,11 @@
 // A seeding: sightings gathered until their places are known to be steady.
 ghost use mathlib.Core.Path.{_≡_};
 ghost use Rattle.seeding.specs.Seeding.{freshSeeding, gathered, deviation, steady};
-use controller_params::VISION_SEED_POS_STD_THRESH_M;
 use float_root::sqrt;
-use linear::Vector2f;
-use linear::Vector3f;
-use linear::ZEROS_2;
+use na::Vector2f;
+use na::Vector3f;
+use na::ZEROS_2;
+use params::VISION_SEED_POS_STD_THRESH_M;
 
 // The sightings of a seeding: how many, the sums of their places and of the squares.
 pub struct Seeding {

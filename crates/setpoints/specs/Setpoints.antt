@@ -1,5 +1,5 @@
 -- Zero setpoints and an empty PID memory, which the contracts of those who use the constants cite. Assumes nothing.
-use Rattle.linear.specs.Vector.{zeros3}
+use Rattle.na.specs.Vector.{zeros3}
 use Rattle.setpoints.specs.declared.ManeuverSetpoints.{ManeuverSetpoints}
 use Rattle.setpoints.specs.declared.PidMemory.{PidMemory}
 

@@ -1,7 +1,7 @@
 // Setpoints, and what the pose's PID remembers. Types and constants alone, so that a context needs
 // no PID.
-use linear::Vector3f;
-use linear::ZEROS_3;
+use na::Vector3f;
+use na::ZEROS_3;
 
 pub struct ManeuverSetpoints {
     pub body_twist: Vector3f,

@@ -4,8 +4,8 @@ use mathlib.Core.Bool.{cond}
 use mathlib.Core.List.{List}
 use lib.Dec.{eqb, ltb}
 use lib.Ieee.{Float}
-use Rattle.linear.specs.Vector.{zeroFloat}
-use Rattle.commands.specs.declared.CommandWords.{CommandWords}
+use Rattle.na.specs.Vector.{zeroFloat}
+use Rattle.cmd.specs.declared.CommandWords.{CommandWords}
 use Rattle.block_floats.specs.Floats.{floatAt}
 use Rattle.block_check.specs.Layout as at
 

@@ -3,8 +3,8 @@ use Prim.Native.Nat.{ℕ, _/_, _%_, _^_}
 use mathlib.Core.Bool.{Bool}
 use mathlib.Core.List.{List}
 use lib.Dec.{eqb}
-use Rattle.call_inputs.specs.declared.PlanInput.{PlanInput}
-use Rattle.call_inputs.specs.declared.SightInput.{SightInput}
+use Rattle.inputs.specs.declared.PlanInput.{PlanInput}
+use Rattle.inputs.specs.declared.SightInput.{SightInput}
 use Rattle.block_words.specs.Word.{wordAt}
 use Rattle.block_floats.specs.Floats.{floatAt, vector3At, vector4At}
 use Rattle.block_check.specs.Layout as at

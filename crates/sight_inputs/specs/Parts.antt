@@ -2,7 +2,7 @@
 use Prim.Native.Nat.{ℕ, _+_}
 use mathlib.Core.List.{List}
 use Rattle.matrices.specs.declared.Matrix3x4.{Matrix3x4}
-use Rattle.linear.specs.declared.Vector6f.{Vector6f}
+use Rattle.na.specs.declared.Vector6f.{Vector6f}
 use Rattle.block_floats.specs.Floats.{vector3At, vector4At}
 
 -- six of state: x, y, heading, their velocities

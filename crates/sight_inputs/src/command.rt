@@ -4,7 +4,7 @@ ghost use mathlib.Core.List.{[]};
 ghost use Rattle.sight_inputs.specs.Command.{firstWords, commandWords};
 use block_floats::vec3_at;
 use block_floats::vec4_at;
-use commands::CommandWords;
+use cmd::CommandWords;
 
 // Where they begin.
 const COMMAND: u8 = 24;

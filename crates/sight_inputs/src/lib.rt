@@ -22,8 +22,8 @@ use block_floats::float_at;
 use block_floats::vec3_at;
 use block_floats::vec4_at;
 use block_words::word_at;
-use call_inputs::PlanInput;
-use call_inputs::SightInput;
+use inputs::PlanInput;
+use inputs::SightInput;
 
 // The first word of the wheel speeds, which steer takes too.
 pub const WHEELS: u8 = 7;

@@ -4,8 +4,8 @@ ghost use Prim.Native.Nat.{_+_, _<_};
 ghost use Rattle.sight_inputs.specs.Parts.{vector6At, matrix3x4At};
 use block_floats::vec3_at;
 use block_floats::vec4_at;
-use linear::Vector6f;
 use matrices::Matrix3x4;
+use na::Vector6f;
 
 pub(crate) fn vec6_at(block: &[u8], at: u8) -> Vector6f
     requires { ⌜ at + 5 < 128 ⌝ }

@@ -1,8 +1,8 @@
 -- The inputs of steer and finish in a block, document 01, 'Records'. Assumes nothing.
 use Prim.Native.Nat.{ℕ}
 use mathlib.Core.List.{List}
-use Rattle.call_inputs.specs.declared.FinishInput.{FinishInput}
-use Rattle.call_inputs.specs.declared.SteerInput.{SteerInput}
+use Rattle.inputs.specs.declared.FinishInput.{FinishInput}
+use Rattle.inputs.specs.declared.SteerInput.{SteerInput}
 use Rattle.block_floats.specs.Floats.{floatAt, vector3At, vector4At}
 use Rattle.block_check.specs.Layout as at
 use Rattle.sight_inputs.specs.Inputs.{stop, plannerFailed}

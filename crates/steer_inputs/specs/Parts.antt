@@ -3,7 +3,7 @@ use Prim.Native.Nat.{ℕ, _+_}
 use mathlib.Core.List.{List}
 use Rattle.matrices.specs.declared.Matrix3.{Matrix3}
 use Rattle.matrices.specs.declared.Matrix4x3.{Matrix4x3}
-use Rattle.plan_memory.specs.declared.Sample.{Sample}
+use Rattle.memory.specs.declared.Sample.{Sample}
 use Rattle.block_floats.specs.Floats.{vector3At}
 use Rattle.sight_inputs.specs.Parts.{vector6At}
 

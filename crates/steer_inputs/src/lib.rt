@@ -22,8 +22,8 @@ use block_floats::float_at;
 use block_floats::vec3_at;
 use block_floats::vec4_at;
 use block_words::word_at;
-use call_inputs::FinishInput;
-use call_inputs::SteerInput;
+use inputs::FinishInput;
+use inputs::SteerInput;
 use sight_inputs::WHEELS;
 
 pub fn steer_input(block: &[u8]) -> SteerInput

@@ -3,10 +3,10 @@ ghost use mathlib.Core.Path.{_≡_};
 ghost use Prim.Native.Nat.{_+_, _<_};
 ghost use Rattle.steer_inputs.specs.Parts.{sampleAt, matrix3At, matrix4x3At};
 use block_floats::vec3_at;
-use linear::Vector6f;
 use matrices::Matrix3;
 use matrices::Matrix4x3;
-use plan_memory::Sample;
+use memory::Sample;
+use na::Vector6f;
 
 pub(crate) fn sample_at(block: &[u8], at: u8) -> Sample
     requires { ⌜ at + 8 < 128 ⌝ }

@@ -2,8 +2,8 @@
 use mathlib.Core.Bool.{Bool, cond, _&&_}
 use lib.Ieee.{Float, binary32, add, mul, div, lt}
 use Rattle.float_root.specs.Root.{squareRoot}
-use Rattle.linear.specs.declared.Vector3f.{Vector3f}
-use Rattle.controller_params.specs.Params.{stopStateLinearSpeedLimit}
+use Rattle.na.specs.declared.Vector3f.{Vector3f}
+use Rattle.params.specs.Params.{stopStateLinearSpeedLimit}
 
 -- 'Stand-ins': `norm` is the root of x·x + y·y
 abbrev pub normXY : Vector3f → Float

@@ -1,9 +1,9 @@
 // Document 01, 'Steer': the stop state's speed.
 ghost use mathlib.Core.Path.{_≡_};
 ghost use Rattle.stop.specs.Stop.{stopScaled};
-use controller_params::STOP_STATE_LINEAR_SPEED_LIMIT;
 use float_root::sqrt;
-use linear::Vector3f;
+use na::Vector3f;
+use params::STOP_STATE_LINEAR_SPEED_LIMIT;
 
 // In the stop state the linear speed is scaled down to its limit; the angular one stays.
 pub fn stop_scaled(stop: bool, twist: Vector3f) -> Vector3f

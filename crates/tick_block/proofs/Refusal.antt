@@ -5,7 +5,7 @@ use mathlib.Core.Bool.{Bool, true, false, cond}
 use mathlib.Core.List.{List}
 use Rattle.tick_length.specs.declared.TickLengthAnswer.the-variants as Length
 use Rattle.tick_length.specs.TickLength.{isTickLength, tickLengthOf}
-use Rattle.commands.specs.Command.{isMode}
+use Rattle.cmd.specs.Command.{isMode}
 use Rattle.block_words.specs.Word.{wordAt}
 use Rattle.block_check.specs.Layout as at
 use Rattle.block_check.specs.Check.{spareZero}

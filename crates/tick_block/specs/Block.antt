@@ -4,7 +4,7 @@ use mathlib.Core.Bool.{cond}
 use mathlib.Core.List.{List}
 use Rattle.tick_length.specs.declared.TickLength.{TickLength}
 use Rattle.tick_length.specs.TickLength.{isTickLength}
-use Rattle.commands.specs.Command.{isMode}
+use Rattle.cmd.specs.Command.{isMode}
 use Rattle.block_words.specs.Word.{wordAt}
 use Rattle.block_check.specs.Layout as at
 use Rattle.block_check.specs.Check.{spareZero}

@@ -2,22 +2,22 @@
 -- Assumes nothing.
 use Prim.Native.Nat.{ℕ}
 use Rattle.gate_action.specs.Outcome.{letterOf}
-use Rattle.vision_gate.specs.Vision.{active}
+use Rattle.vision.specs.Vision.{active}
 use Rattle.divergence.specs.Divergence.{isRecovering}
 use Rattle.body_controller.specs.declared.BodyController.{BodyController}
-use Rattle.call_inputs.specs.declared.FinishInput.{FinishInput}
+use Rattle.inputs.specs.declared.FinishInput.{FinishInput}
 use Rattle.body_controller.specs.declared.FinishAnswer.{FinishAnswer}
 use Rattle.body_controller.specs.declared.FinishAnswer.the-variants as Finishes
-use Rattle.call_inputs.specs.declared.PlanInput.{PlanInput}
+use Rattle.inputs.specs.declared.PlanInput.{PlanInput}
 use Rattle.body_controller.specs.declared.PlanCallAnswer.{PlanCallAnswer}
 use Rattle.body_controller.specs.declared.PlanCallAnswer.the-variants as Plans
-use Rattle.call_inputs.specs.declared.SightInput.{SightInput}
+use Rattle.inputs.specs.declared.SightInput.{SightInput}
 use Rattle.body_controller.specs.declared.SightAnswer.{SightAnswer}
 use Rattle.body_controller.specs.declared.SightAnswer.the-variants as Sights
-use Rattle.call_inputs.specs.declared.SteerInput.{SteerInput}
+use Rattle.inputs.specs.declared.SteerInput.{SteerInput}
 use Rattle.body_controller.specs.declared.SteerAnswer.{SteerAnswer}
 use Rattle.body_controller.specs.declared.SteerAnswer.the-variants as Steers
-use Rattle.tick_parts.specs.Refusal.{refusalNumber}
+use Rattle.tick.specs.Refusal.{refusalNumber}
 use Rattle.body_controller.specs.Sight.{sightOf}
 use Rattle.body_controller.specs.Plan.{planOf}
 use Rattle.body_controller.specs.Steer.{steerOf}

@@ -7,9 +7,9 @@ use body_controller::PlanCallAnswer;
 use body_controller::SightAnswer;
 use body_controller::SteerAnswer;
 use gate_action::GateAction;
-use linear::Vector6f;
+use na::Vector6f;
 use plan_answer::PlanAnswer;
-use tick_parts::Outputs;
+use tick::Outputs;
 
 // The outcome's place in document 01's order, Q to R.
 fn outcome(action: GateAction) -> u32 {

@@ -3,15 +3,15 @@ use crate::answers::put_outputs;
 use crate::put::mark;
 use crate::put::put;
 use body_controller::BodyController;
-use commands::GlobalPosition;
-use commands::HeadingLine;
-use commands::ManeuverCommand;
-use control_context::ControlContext;
+use cmd::GlobalPosition;
+use cmd::HeadingLine;
+use cmd::ManeuverCommand;
+use context::ControlContext;
 use float_bits::to_bits;
 use gate::VisionGateState;
-use linear::Vector6f;
-use plan_memory::HeldSample;
-use plan_memory::PrevCommand;
+use memory::HeldSample;
+use memory::PrevCommand;
+use na::Vector6f;
 use setpoints::PidMemory;
 
 fn put_gate(words: &mut [u32; 96], gate: VisionGateState) {

@@ -3,7 +3,7 @@ use Prim.Native.Nat.{ℕ, _≤_}
 use lib.ListN.{length, length-append}
 use native.Mathlib.Omega.{arith}
 use Rattle.text_pieces.proofs.Digits.{at-most-ten}
-use Rattle.tick_parts.specs.declared.Counts.{Counts}
+use Rattle.tick.specs.declared.Counts.{Counts}
 use Rattle.totals_text.specs.Totals.{totalsText}
 
 pub totals-fit : (ticks : ℕ) (n : Counts) → length (totalsText ticks n) ≤ 99

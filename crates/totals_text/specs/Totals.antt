@@ -1,7 +1,7 @@
 -- The last line of program `drive`, document 01, 'Cases', as bytes in ASCII. Assumes nothing.
 use Prim.Native.Nat.{ℕ}
 use mathlib.Core.List.{List, _++_}
-use Rattle.tick_parts.specs.declared.Counts.{Counts}
+use Rattle.tick.specs.declared.Counts.{Counts}
 use Rattle.text_pieces.specs.Pieces.{decimal, field, newline}
 
 -- last, always: ticks, then counts in the order Q to R

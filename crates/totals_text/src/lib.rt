@@ -9,7 +9,7 @@ ghost use Rattle.totals_text.specs.Totals.{totalsText};
 use text_pieces::put_byte;
 use text_pieces::put_decimal;
 use text_pieces::put_number;
-use tick_parts::Counts;
+use tick::Counts;
 
 // Four numbers, each behind a space.
 fn put_four(buf: &mut [u8; 128], at: usize, a: u32, b: u32, c: u32, d: u32) -> usize

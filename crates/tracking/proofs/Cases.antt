@@ -1,7 +1,7 @@
 -- -0.0 does not survive in a setpoint: the Rust adds it to 0.0. By computation. Assumes nothing.
 use mathlib.Core.Path.{_≡_, refl}
 use lib.Ieee.{Float, binary32, ofBits, round, size, add, mul}
-use Rattle.linear.specs.Vector.{zeros3, sumOf, scaled}
+use Rattle.na.specs.Vector.{zeros3, sumOf, scaled}
 use Rattle.tracking.specs.Setpoints.{twistSetpoint, accelSetpoint}
 
 -- -0.0

@@ -2,11 +2,11 @@
 -- feedforward alone for the twist. Assumes nothing.
 use lib.Ieee.{Float, binary32, add, sub}
 use Rattle.float_remainder.specs.Remainder.{remainderBy, tau}
-use Rattle.linear.specs.declared.Vector3f.{Vector3f}
-use Rattle.linear.specs.declared.Vector6f.{Vector6f}
-use Rattle.linear.specs.Vector.{zeros3, sumOf, differenceOf, scaled}
-use Rattle.controller_params.specs.declared.PidGains.{PidGains}
-use Rattle.controller_params.specs.Params.{linearPosePidGains, angularPosePidGains, posePidAntiJitterThresh, poseAccelFeedbackGain, poseVelFeedforwardGain}
+use Rattle.na.specs.declared.Vector3f.{Vector3f}
+use Rattle.na.specs.declared.Vector6f.{Vector6f}
+use Rattle.na.specs.Vector.{zeros3, sumOf, differenceOf, scaled}
+use Rattle.params.specs.declared.PidGains.{PidGains}
+use Rattle.params.specs.Params.{linearPosePidGains, angularPosePidGains, posePidAntiJitterThresh, poseAccelFeedbackGain, poseVelFeedforwardGain}
 use Rattle.pid.specs.declared.AntiJitterThresh.the-variants.{Below}
 use Rattle.pid.specs.declared.OutputLimits.the-variants.{Absent}
 use Rattle.pid.specs.declared.PidController.{PidController}

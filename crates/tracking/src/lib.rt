@@ -1,17 +1,17 @@
 // Document 01, 'Steer': control_context.rs from the trajectory's sample to the setpoints.
 ghost use mathlib.Core.Path.{_≡_};
-ghost use Rattle.linear.specs.Vector.{zeroFloat};
+ghost use Rattle.na.specs.Vector.{zeroFloat};
 ghost use Rattle.tracking.specs.Setpoints.{poseAxis, axisAnswered, poseAnswered, wrapped, twistSetpoint, accelSetpoint, trackingSetpoints};
-use controller_params::ANGULAR_POSE_PID_GAINS;
-use controller_params::LINEAR_POSE_PID_GAINS;
-use controller_params::POSE_ACCEL_FEEDBACK_GAIN;
-use controller_params::POSE_PID_ANTI_JITTER_THRESH;
-use controller_params::POSE_VEL_FEEDFORWARD_GAIN;
-use controller_params::PidGains;
 use float_remainder::remainder;
-use linear::Vector3f;
-use linear::Vector6f;
-use linear::ZEROS_3;
+use na::Vector3f;
+use na::Vector6f;
+use na::ZEROS_3;
+use params::ANGULAR_POSE_PID_GAINS;
+use params::LINEAR_POSE_PID_GAINS;
+use params::POSE_ACCEL_FEEDBACK_GAIN;
+use params::POSE_PID_ANTI_JITTER_THRESH;
+use params::POSE_VEL_FEEDFORWARD_GAIN;
+use params::PidGains;
 use pid::AntiJitterThresh;
 use pid::OutputLimits;
 use pid::PidController;

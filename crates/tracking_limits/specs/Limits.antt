@@ -2,9 +2,9 @@
 use mathlib.Core.Bool.{Bool, _&&_, _||_}
 use lib.Ieee.{Float, lt}
 use Rattle.float_bits.specs.Magnitude.{magnitude}
-use Rattle.linear.specs.declared.Vector4f.{Vector4f}
-use Rattle.controller_params.specs.declared.TrackingErrors.{TrackingErrors}
-use Rattle.controller_params.specs.Params.{trackingDivergenceRecoveryRestWheelVel}
+use Rattle.na.specs.declared.Vector4f.{Vector4f}
+use Rattle.params.specs.declared.TrackingErrors.{TrackingErrors}
+use Rattle.params.specs.Params.{trackingDivergenceRecoveryRestWheelVel}
 
 -- 'Steer': an error exceeds its limit; NaN exceeds nothing
 unfoldable pub anyExceeds : TrackingErrors → TrackingErrors → Bool

@@ -1,10 +1,10 @@
 // Document 01, 'Steer': when a tracking error exceeds its limit, and when the wheels are at rest.
 ghost use mathlib.Core.Path.{_≡_};
 ghost use Rattle.tracking_limits.specs.Limits.{anyExceeds, atRest};
-use controller_params::TRACKING_DIVERGENCE_RECOVERY_REST_WHEEL_VEL;
-use controller_params::TrackingErrors;
 use float_bits::abs;
-use linear::Vector4f;
+use na::Vector4f;
+use params::TRACKING_DIVERGENCE_RECOVERY_REST_WHEEL_VEL;
+use params::TrackingErrors;
 
 // NaN exceeds nothing.
 pub fn any_exceeds(error: TrackingErrors, limit: TrackingErrors) -> bool

@@ -1,8 +1,8 @@
 // The operations on vectors that the tick uses and no others. Every step is rounded to f32.
 ghost use mathlib.Core.Path.{_≡_};
-ghost use Rattle.linear.specs.Vector.{entries3, entries4, sumOf, differenceOf, scaled, dotOf};
-use linear::Vector3f;
-use linear::Vector4f;
+ghost use Rattle.na.specs.Vector.{entries3, entries4, sumOf, differenceOf, scaled, dotOf};
+use na::Vector3f;
+use na::Vector4f;
 
 pub fn add(v: Vector3f, o: Vector3f) -> Vector3f
     ensures { λ r. ⌜ r ≡ sumOf v o ⌝ }

@@ -1,9 +1,9 @@
 -- What finish works out, document 01, 'Finish'. Assumes nothing.
 use lib.Ieee.{Float}
-use Rattle.linear.specs.declared.Vector3f.{Vector3f}
+use Rattle.na.specs.declared.Vector3f.{Vector3f}
 use Rattle.matrices.specs.declared.Matrix3.{Matrix3}
 use Rattle.matrices.specs.declared.Matrix4x3.{Matrix4x3}
-use Rattle.linear.specs.Vector.{differenceOf}
+use Rattle.na.specs.Vector.{differenceOf}
 use Rattle.matrices.specs.Matrix.{productOf3, productOf4x3}
 use Rattle.matrices.specs.Rotation.{toGlobal}
 use Rattle.wheels.specs.declared.FinishOutputs.{FinishOutputs}

@@ -2,11 +2,11 @@
 ghost use mathlib.Core.Path.{_≡_};
 ghost use Rattle.wheels.specs.Outputs.{frictionCompensated, finishOutputs};
 use limits::clamp_accel;
-use linear::Vector3f;
-use linear::Vector4f;
 use matrices::Matrix3;
 use matrices::Matrix4x3;
 use matrices::rotation::rotate_to_global;
+use na::Vector3f;
+use na::Vector4f;
 use vectors::sub;
 
 // `BodyController`'s outputs that finish sets, and the acceleration's clamp mark.

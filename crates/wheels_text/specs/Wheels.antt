@@ -4,7 +4,7 @@ use mathlib.Core.Bool.{cond}
 use mathlib.Core.List.{List, [], _∷_, _++_}
 use lib.Dec.{ltb}
 use lib.Ieee.{Float, binary32, toBits}
-use Rattle.linear.specs.declared.Vector4f.{Vector4f}
+use Rattle.na.specs.declared.Vector4f.{Vector4f}
 use Rattle.text_pieces.specs.Pieces.{field}
 
 -- a hexadecimal digit: `0` to `9`, then `a` to `f`

@@ -5,7 +5,7 @@ ghost use Rattle.text_pieces.specs.Pieces.{field};
 ghost use Rattle.text_pieces.specs.Puts.{Puts};
 ghost use Rattle.wheels_text.specs.Wheels.{hexDigit, hexDigits, hex, wheelsText};
 use float_bits::to_bits;
-use linear::Vector4f;
+use na::Vector4f;
 use text_pieces::put_byte;
 
 // A word's last hexadecimal digit.

@@ -9,10 +9,10 @@ use types.Run.{OneOf, miss}
 use lib.Dec.{T, eqb}
 use borrow.Author.Needs.{needs}
 use borrow.Author.Tests.{ne-eqb}
-use Rattle.commands.proofs.ManeuverCommand.{the-type}
-use Rattle.commands.specs.declared.ManeuverCommand.{ManeuverCommand}
-use Rattle.commands.specs.declared.ManeuverCommand.the-variants as Cmd
-use Rattle.commands.specs.Command.{modeOf}
+use Rattle.cmd.proofs.ManeuverCommand.{the-type}
+use Rattle.cmd.specs.declared.ManeuverCommand.{ManeuverCommand}
+use Rattle.cmd.specs.declared.ManeuverCommand.the-variants as Cmd
+use Rattle.cmd.specs.Command.{modeOf}
 use Rattle.command_equality.specs.Equality.{equal, fieldsEqual}
 use Rattle.command_equality.proofs.commands_equal.Statement.{statement}
 use Rattle.command_equality.proofs.commands_equal.Tie as tie

@@ -1,6 +1,6 @@
 -- `context_sight::see` meets its contract. Assumes nothing.
 use borrow.Author.Needs.{needs}
-use Rattle.linear.specs.Vector.{zeros3}
+use Rattle.na.specs.Vector.{zeros3}
 use Rattle.setpoints.specs.Setpoints.{emptyPid}
 use Rattle.context_sight.specs.Sight.{seen}
 use Rattle.context_sight.proofs.see.Statement.{statement}

@@ -2,17 +2,17 @@
 use mathlib.Core.Path.{_≡_, refl, sym, ap, _∙_}
 use lib.Ieee.{Float}
 use borrow.Author.Needs.{needs}
-use Rattle.linear.specs.declared.Vector4f.{Vector4f}
-use Rattle.linear.specs.Vector.{zeros3}
-use Rattle.commands.specs.declared.ManeuverCommand.{ManeuverCommand}
-use Rattle.plan_memory.specs.declared.Sample.{Sample}
-use Rattle.plan_memory.specs.declared.HeldSample.{HeldSample}
-use Rattle.plan_memory.specs.declared.HeldSample.the-variants.{Absent, Held}
+use Rattle.na.specs.declared.Vector4f.{Vector4f}
+use Rattle.na.specs.Vector.{zeros3}
+use Rattle.cmd.specs.declared.ManeuverCommand.{ManeuverCommand}
+use Rattle.memory.specs.declared.Sample.{Sample}
+use Rattle.memory.specs.declared.HeldSample.{HeldSample}
+use Rattle.memory.specs.declared.HeldSample.the-variants.{Absent, Held}
 use Rattle.plan_answer.specs.declared.PlanAnswer.{PlanAnswer}
 use Rattle.plan_answer.specs.declared.PlanAnswer.the-variants.{Hold, NoVision, Keep, NewPlan}
 use Rattle.setpoints.specs.Setpoints.{zeroSetpoints}
-use Rattle.control_context.specs.declared.ControlContext.{ControlContext}
-use Rattle.control_context.specs.declared.Planned.{Planned}
+use Rattle.context.specs.declared.ControlContext.{ControlContext}
+use Rattle.context.specs.declared.Planned.{Planned}
 use Rattle.context_steer.specs.declared.Tracked.{Tracked}
 use Rattle.context_steer.specs.Steer.{tracked, followedBy, followed, sampleBy, trackedSample, recovered, steered}
 use Rattle.context_steer.proofs.steer.Statement.{statement}

@@ -1,6 +1,6 @@
 -- `encoder_lag::lag_of` meets its contract. Assumes nothing.
 use borrow.Author.Needs.{needs}
-use Rattle.linear.specs.Vector.{zeros2}
+use Rattle.na.specs.Vector.{zeros2}
 use Rattle.encoder_lag.specs.EncoderLag.{dtOf, newLag}
 use Rattle.encoder_lag.proofs.Range.{horizon-castable}
 use Rattle.encoder_lag.proofs.lag_of.Statement.{statement}

@@ -2,9 +2,9 @@
 use mathlib.Core.Path.{_≡_, refl}
 use mathlib.Core.Bool.{Bool, true, false, cond}
 use borrow.Author.Needs.{needs}
-use Rattle.linear.specs.declared.Vector6f.{Vector6f}
-use Rattle.commands.specs.declared.ManeuverCommand.{ManeuverCommand}
-use Rattle.plan_memory.specs.declared.Memory.{Memory}
+use Rattle.na.specs.declared.Vector6f.{Vector6f}
+use Rattle.cmd.specs.declared.ManeuverCommand.{ManeuverCommand}
+use Rattle.memory.specs.declared.Memory.{Memory}
 use Rattle.plan_answer.specs.declared.PlanAnswer.the-variants.{Keep, NewPlan}
 use Rattle.maneuvers.specs.Plan.{hold, plansAnew, seedOf, maneuverAnswer, decided, numberDecided}
 use Rattle.plan_answer.specs.Answer.{answerNumber}

@@ -2,8 +2,8 @@
 use mathlib.Core.Path.{_≡_, refl}
 use mathlib.Core.Bool.{Bool, true, false}
 use lib.Ieee.{Float, nan, inf, fin, binary32, add, mul, neg, ofBits}
-use Rattle.linear.specs.declared.Vector3f.{Vector3f}
-use Rattle.linear.specs.Vector.{zeroFloat, dotOf, addProducts}
+use Rattle.na.specs.declared.Vector3f.{Vector3f}
+use Rattle.na.specs.Vector.{zeroFloat, dotOf, addProducts}
 use Rattle.matrices.specs.Matrix.{productOf3}
 use Rattle.matrices.specs.Rotation.{oneFloat, rotation, toGlobal, toLocal}
 

@@ -1,6 +1,6 @@
 -- `tracking::accel_setpoint` meets its contract. Assumes nothing.
 use borrow.Author.Needs.{needs}
-use Rattle.linear.specs.Vector.{zeros3}
+use Rattle.na.specs.Vector.{zeros3}
 use Rattle.tracking.specs.Setpoints.{accelSetpoint}
 use Rattle.tracking.proofs.accel_setpoint.Statement.{statement}
 use Rattle.tracking.proofs.accel_setpoint.Tie as tie

@@ -1,6 +1,6 @@
 -- `tracking::twist_setpoint` meets its contract. Assumes nothing.
 use borrow.Author.Needs.{needs}
-use Rattle.linear.specs.Vector.{zeros3}
+use Rattle.na.specs.Vector.{zeros3}
 use Rattle.tracking.specs.Setpoints.{twistSetpoint}
 use Rattle.tracking.proofs.twist_setpoint.Statement.{statement}
 use Rattle.tracking.proofs.twist_setpoint.Tie as tie

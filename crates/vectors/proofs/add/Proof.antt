@@ -1,6 +1,6 @@
 -- `vectors::add` meets its contract, by computation. Assumes nothing.
 use mathlib.Core.Path.{refl}
-use Rattle.linear.specs.Vector.{sumOf}
+use Rattle.na.specs.Vector.{sumOf}
 use Rattle.vectors.proofs.add.Statement.{statement}
 use Rattle.vectors.proofs.add.Tie as tie
 

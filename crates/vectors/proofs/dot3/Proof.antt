@@ -1,6 +1,6 @@
 -- `vectors::dot3` meets its contract, by computation. Assumes nothing.
 use mathlib.Core.Path.{refl}
-use Rattle.linear.specs.Vector.{dotOf, addProducts}
+use Rattle.na.specs.Vector.{dotOf, addProducts}
 use Rattle.vectors.proofs.dot3.Statement.{statement}
 use Rattle.vectors.proofs.dot3.Tie as tie
 

@@ -1,6 +1,6 @@
 -- `vectors::scale` meets its contract, by computation. Assumes nothing.
 use mathlib.Core.Path.{refl}
-use Rattle.linear.specs.Vector.{scaled}
+use Rattle.na.specs.Vector.{scaled}
 use Rattle.vectors.proofs.scale.Statement.{statement}
 use Rattle.vectors.proofs.scale.Tie as tie
 

@@ -1,6 +1,6 @@
 -- `vectors::sub` meets its contract, by computation. Assumes nothing.
 use mathlib.Core.Path.{refl}
-use Rattle.linear.specs.Vector.{differenceOf}
+use Rattle.na.specs.Vector.{differenceOf}
 use Rattle.vectors.proofs.sub.Statement.{statement}
 use Rattle.vectors.proofs.sub.Tie as tie
 

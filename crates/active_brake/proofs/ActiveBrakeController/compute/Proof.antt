@@ -1,5 +1,5 @@
 -- `active_brake::ActiveBrakeController::compute` meets its contract. Assumes nothing.
-use Rattle.linear.specs.Vector.{zeros4}
+use Rattle.na.specs.Vector.{zeros4}
 use Rattle.active_brake.specs.Brake.{computed}
 use borrow.Author.Needs.{needs}
 use Rattle.active_brake.proofs.ActiveBrakeController.compute.Statement.{statement}

@@ -1,7 +1,7 @@
 -- `body_controller::BodyController::start` meets its contract. Assumes nothing.
 use borrow.Author.Needs.{needs}
-use Rattle.linear.specs.Vector.{zeros3, zeros6}
-use Rattle.tick_parts.specs.Counts.{noCounts}
+use Rattle.na.specs.Vector.{zeros3, zeros6}
+use Rattle.tick.specs.Counts.{noCounts}
 use Rattle.body_controller.specs.Controller.{started}
 use Rattle.body_controller.proofs.BodyController.start.Statement.{statement}
 use Rattle.body_controller.proofs.BodyController.start.Tie as tie

@@ -1,7 +1,7 @@
 -- `body_controller::controller::no_outputs` meets its contract. Assumes nothing.
 use mathlib.Core.Path.{refl}
-use Rattle.linear.specs.Vector.{zeros3, zeros4}
-use Rattle.tick_parts.specs.Outputs.{noOutputs}
+use Rattle.na.specs.Vector.{zeros3, zeros4}
+use Rattle.tick.specs.Outputs.{noOutputs}
 use Rattle.body_controller.proofs.controller.no_outputs.Statement.{statement}
 use Rattle.body_controller.proofs.controller.no_outputs.Tie as tie
 

@@ -1,6 +1,6 @@
 -- `drive_pass::Pass::counts` meets its contract. Assumes nothing.
 use borrow.Author.Needs.{needs}
-use Rattle.tick_parts.specs.Counts.{noCounts}
+use Rattle.tick.specs.Counts.{noCounts}
 use Rattle.drive_pass.proofs.Pass.counts.Statement.{statement}
 use Rattle.drive_pass.proofs.Pass.counts.Tie as tie
 

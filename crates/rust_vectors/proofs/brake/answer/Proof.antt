@@ -2,7 +2,7 @@
 use mathlib.Core.Path.{sym, _∙_}
 use borrow.Author.Tests.{ne-eqb}
 use borrow.Author.Needs.{needs}
-use Rattle.linear.specs.Vector.{zeros4}
+use Rattle.na.specs.Vector.{zeros4}
 use Rattle.rust_vectors.specs.Brake.{answer}
 use Rattle.rust_vectors.proofs.brake.answer.Statement.{statement}
 use Rattle.rust_vectors.proofs.brake.answer.Tie as tie

@@ -2,7 +2,7 @@
 use mathlib.Core.Path.{sym, _∙_}
 use borrow.Author.Tests.{ne-eqb}
 use borrow.Author.Needs.{needs}
-use Rattle.linear.specs.Vector.{zeros2}
+use Rattle.na.specs.Vector.{zeros2}
 use Rattle.rust_vectors.specs.Lag.{answer}
 use Rattle.rust_vectors.proofs.lag.answer.Statement.{statement}
 use Rattle.rust_vectors.proofs.lag.answer.Tie as tie

@@ -2,7 +2,7 @@
 use mathlib.Core.Path.{sym, _∙_}
 use borrow.Author.Tests.{ne-eqb}
 use borrow.Author.Needs.{needs}
-use Rattle.linear.specs.Vector.{zeros3}
+use Rattle.na.specs.Vector.{zeros3}
 use Rattle.rust_vectors.specs.Pids.{answer3}
 use Rattle.rust_vectors.proofs.pids.answer3.Statement.{statement}
 use Rattle.rust_vectors.proofs.pids.answer3.Tie as tie

@@ -2,7 +2,7 @@
 use mathlib.Core.Path.{sym, _∙_}
 use borrow.Author.Tests.{ne-eqb}
 use borrow.Author.Needs.{needs}
-use Rattle.linear.specs.Vector.{zeros4}
+use Rattle.na.specs.Vector.{zeros4}
 use Rattle.rust_vectors.specs.Pids.{answer4}
 use Rattle.rust_vectors.proofs.pids.answer4.Statement.{statement}
 use Rattle.rust_vectors.proofs.pids.answer4.Tie as tie

@@ -1,6 +1,6 @@
 -- `seeding::Seeding::fresh` meets its contract. Assumes nothing.
 use mathlib.Core.Path.{refl}
-use Rattle.linear.specs.Vector.{zeros2}
+use Rattle.na.specs.Vector.{zeros2}
 use Rattle.seeding.specs.Seeding.{freshSeeding}
 use Rattle.seeding.proofs.Seeding.fresh.Statement.{statement}
 use Rattle.seeding.proofs.Seeding.fresh.Tie as tie

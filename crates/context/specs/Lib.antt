@@ -1,0 +1,2 @@
+-- What the contracts of `context` cite. Definitions only. Assumes nothing.
+pub mod Context

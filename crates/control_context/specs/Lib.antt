@@ -1,2 +1,0 @@
--- What the contracts of `control_context` cite. Definitions only. Assumes nothing.
-pub mod Context

@@ -1,4 +1,0 @@
--- What the contracts of `tick_parts` cite. Definitions only. Assumes nothing.
-pub mod Counts
-pub mod Outputs
-pub mod Refusal
