@@ -109,9 +109,10 @@ pub fn steer(
     let tracked = tracked_sample(p, context.memory, fresh);
     match tracked {
         HeldSample::Absent => {
+            context = recover(context, wheel_vel_meas);
             return Tracked {
                 setpoints: ZERO_SETPOINTS,
-                context: recover(context, wheel_vel_meas),
+                context,
             };
         }
         HeldSample::Held(sample) => {
@@ -127,10 +128,8 @@ pub fn steer(
             context.pose_pid = pid;
             let cmd = p.cmd;
             context.memory = Memory::after_tracking(next, cmd);
-            return Tracked {
-                setpoints,
-                context: recover(context, wheel_vel_meas),
-            };
+            context = recover(context, wheel_vel_meas);
+            return Tracked { setpoints, context };
         }
     }
 }

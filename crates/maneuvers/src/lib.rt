@@ -61,7 +61,7 @@ pub fn decide(
     recovering: bool,
     vision_active: bool,
     cmd: ManeuverCommand,
-    memory: Memory,
+    mut memory: Memory,
     prev_mode: u32,
     estimate: Vector6f,
 ) -> Decision
@@ -76,7 +76,7 @@ pub fn decide(
             prev_mode: 0,
         };
     }
-    let memory = in_mode(memory, mode, prev_mode);
+    memory = in_mode(memory, mode, prev_mode);
     Decision {
         answer: maneuver_answer(memory, vision_active, cmd, estimate),
         memory,
