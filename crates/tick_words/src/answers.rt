@@ -1,13 +1,13 @@
-// The words of the four answers; word 2 has the number of a refusal.
+// The words of the four answers, which are zeros before; word 2 has the number of a refusal.
 use crate::block::refuse;
-use crate::put::mark;
 use crate::put::put;
+use crate::put::put_two;
 use body_controller::FinishAnswer;
 use body_controller::PlanCallAnswer;
 use body_controller::SightAnswer;
 use body_controller::SteerAnswer;
+use call_answers::Measurement;
 use gate_action::GateAction;
-use na::Vector6f;
 use plan_answer::PlanAnswer;
 use tick::Outputs;
 
@@ -25,61 +25,38 @@ fn outcome(action: GateAction) -> u32 {
     }
 }
 
+fn put_measurement(words: &mut [u32; 96], m: Measurement) {
+    let pose = m.vision_pose;
+    let wheels = m.wheel_vel;
+    put(
+        words,
+        3,
+        &[
+            pose.x,
+            pose.y,
+            pose.z,
+            wheels.x,
+            wheels.y,
+            wheels.z,
+            wheels.w,
+            m.gyro_theta,
+        ],
+    );
+}
+
 pub(crate) fn put_sight(words: &mut [u32; 96], answer: SightAnswer) {
     match answer {
         SightAnswer::Accepted(s) => {
             let action = s.action;
             words[1] = outcome(action);
-            let m = s.measurement;
-            let pose = m.vision_pose;
-            let wheels = m.wheel_vel;
-            put(
-                words,
-                3,
-                &[
-                    pose.x,
-                    pose.y,
-                    pose.z,
-                    wheels.x,
-                    wheels.y,
-                    wheels.z,
-                    wheels.w,
-                    m.gyro_theta,
-                ],
-            );
-            words[11] = mark(s.effective_vision_update);
-            let p = s.state_prediction;
-            put(
-                words,
-                12,
-                &[
-                    p.pose.x,
-                    p.pose.y,
-                    p.pose.z,
-                    p.twist.x,
-                    p.twist.y,
-                    p.twist.z,
-                ],
-            );
+            put_measurement(words, s.measurement);
+            if s.effective_vision_update {
+                words[11] = 1;
+            }
+            put_two(words, 12, s.state_prediction.pose, s.state_prediction.twist);
         }
         SightAnswer::Refused(r) => refuse(words, r.number()),
     }
-}
-
-fn put_seed(words: &mut [u32; 96], s: Vector6f) {
-    words[18] = 3;
-    put(
-        words,
-        19,
-        &[
-            s.pose.x,
-            s.pose.y,
-            s.pose.z,
-            s.twist.x,
-            s.twist.y,
-            s.twist.z,
-        ],
-    );
 }
 
 pub(crate) fn put_plan(words: &mut [u32; 96], answer: PlanCallAnswer) {
@@ -92,7 +69,10 @@ pub(crate) fn put_plan(words: &mut [u32; 96], answer: PlanCallAnswer) {
             PlanAnswer::Keep => {
                 words[18] = 2;
             }
-            PlanAnswer::NewPlan(s) => put_seed(words, s),
+            PlanAnswer::NewPlan(seed) => {
+                words[18] = 3;
+                put_two(words, 19, seed.pose, seed.twist);
+            }
         },
         PlanCallAnswer::Refused(r) => {
             words[2] = r.number() as u32;
@@ -146,9 +126,15 @@ pub(crate) fn put_finish(words: &mut [u32; 96], answer: FinishAnswer) {
     match answer {
         FinishAnswer::Accepted(f) => {
             put_outputs(words, f.outputs);
-            words[45] = mark(f.vel_clamped);
-            words[46] = mark(f.accel_clamped);
-            words[47] = mark(f.wheels_disabled);
+            if f.vel_clamped {
+                words[45] = 1;
+            }
+            if f.accel_clamped {
+                words[46] = 1;
+            }
+            if f.wheels_disabled {
+                words[47] = 1;
+            }
         }
         FinishAnswer::Refused(r) => {}
     }

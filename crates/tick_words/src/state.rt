@@ -1,7 +1,7 @@
 // The words of what a tick leaves in the controller.
 use crate::answers::put_outputs;
-use crate::put::mark;
 use crate::put::put;
+use crate::put::put_two;
 use body_controller::BodyController;
 use cmd::GlobalPosition;
 use cmd::HeadingLine;
@@ -11,8 +11,6 @@ use float_bits::to_bits;
 use gate::VisionGateState;
 use memory::HeldSample;
 use memory::PrevCommand;
-use na::Vector6f;
-use setpoints::PidMemory;
 
 fn put_gate(words: &mut [u32; 96], gate: VisionGateState) {
     match gate {
@@ -110,31 +108,6 @@ fn put_previous(words: &mut [u32; 96], prev: PrevCommand) {
     }
 }
 
-fn put_estimate(words: &mut [u32; 96], estimate: Vector6f, pid: PidMemory) {
-    let pose = estimate.pose;
-    let twist = estimate.twist;
-    let prev = pid.prev_error;
-    let integrated = pid.integrated_error;
-    put(
-        words,
-        83,
-        &[
-            pose.x,
-            pose.y,
-            pose.z,
-            twist.x,
-            twist.y,
-            twist.z,
-            prev.x,
-            prev.y,
-            prev.z,
-            integrated.x,
-            integrated.y,
-            integrated.z,
-        ],
-    );
-}
-
 fn put_context(words: &mut [u32; 96], k: ControlContext) {
     let vision = k.vision;
     let gate = vision.gate;
@@ -146,17 +119,29 @@ fn put_context(words: &mut [u32; 96], k: ControlContext) {
     put_held(words, held);
     put_previous(words, prev_cmd);
     words[82] = k.prev_mode;
-    put_estimate(words, k.state_estimate, k.pose_pid);
+    put_two(words, 83, k.state_estimate.pose, k.state_estimate.twist);
+    put_two(
+        words,
+        89,
+        k.pose_pid.prev_error,
+        k.pose_pid.integrated_error,
+    );
 }
 
 // A tick that was finished has put its outputs and the wheels' mark.
 pub(crate) fn put_state(words: &mut [u32; 96], c: BodyController) {
     let context = c.context();
-    words[56] = mark(c.vision_active());
-    words[57] = mark(c.tracking_divergence_recovery_active());
+    if c.vision_active() {
+        words[56] = 1;
+    }
+    if c.tracking_divergence_recovery_active() {
+        words[57] = 1;
+    }
     put_context(words, context);
     if words[2] != 0 {
         put_outputs(words, c.outputs());
-        words[47] = mark(context.wheels_disabled);
+        if context.wheels_disabled {
+            words[47] = 1;
+        }
     }
 }
