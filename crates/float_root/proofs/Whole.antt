@@ -1,8 +1,8 @@
 -- `wholeRoot n` is the largest s with s * s ≤ n: its square is at most n, and that of the next number is above n (`whole-root`).
--- Squares are in the order of their roots (`root-lt`, `root-le`). Assumes nothing.
+-- Squares are in the order of their roots (`root-lt`). Assumes nothing.
 use mathlib.Core.Path.{_≡_, sym, ap, _∙_, subst}
 use Prim.Native.Nat.{ℕ, zero, suc, _+_, _*_, _/_, _^_, _≤_, _<_, zero-le}
-use native.Mathlib.Nat.{le-trans, le-of-eq, lt-of-lt-of-le, lt-of-le-of-lt, lt-of-not-le, not-le-of-lt, mul-le-mul, mul-comm, mul-suc, suc-mul, mul-mul-mul-comm, le-div-iff-mul-le, div-lt-iff-lt-mul, zero-lt-suc, pow-suc, pow-le-pow-left, le-of-suc-le-suc}
+use native.Mathlib.Nat.{le-trans, le-of-eq, lt-of-lt-of-le, lt-of-le-of-lt, lt-of-not-le, not-le-of-lt, mul-le-mul, mul-comm, mul-suc, suc-mul, mul-mul-mul-comm, le-div-iff-mul-le, div-lt-iff-lt-mul, zero-lt-suc, pow-suc, pow-le-pow-left}
 use native.Mathlib.Omega.{arith}
 use mathlib.Core.Bool.{Bool, true, false, not, cond}
 use lib.Dec.{T, leb, leb→le, nleb→lt, lit≤}
@@ -23,9 +23,6 @@ square-lt a b h = lt-of-lt-of-le next (mul-le-mul h h)
   where
     next : a * a < suc a * suc a
     next = simp (suc-mul, mul-suc) (omega arith)
-
-pub root-le : (a b : ℕ) → a * a ≤ b * b → a ≤ b
-root-le a b h = le-of-suc-le-suc (lt-of-not-le (λ (g : b < a). not-le-of-lt (square-lt b a g) h))
 
 -- what has a square above another number is above 0
 pub square-pos : (n r : ℕ) → n < r * r → 0 < r
