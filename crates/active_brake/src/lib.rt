@@ -1,4 +1,5 @@
 // active_brake.rs: each wheel is driven to rest by a P controller on its measured speed.
+#![tactic(auto)]
 ghost use Rattle.std.specs.Prelude.{◌≡◌};
 ghost use Rattle.active_brake.specs.Brake.{brake_of, refusal_number, refusal_of, new_brake, computed, reset_brake};
 
@@ -7,21 +8,21 @@ use na::{Vector4f, ZEROS_4};
 use pid_four::PidController4;
 use tick_length::{TickLength, TickLengthAnswer};
 
-#[derive(Drop)]
+#[derive(Clone, Copy)]
 pub struct ActiveBrakeController {
     pub pid: PidController4,
     pub tick: TickLength,
 }
 
 // A brake, or document 01's refusal 1: k is not a tick length's.
-#[derive(Drop)]
+#[derive(Clone, Copy)]
 pub enum BrakeMade {
     Made(ActiveBrakeController),
     Refused,
 }
 
 // The currents in A, one for each wheel, beside the brake as the call leaves it.
-#[derive(Drop)]
+#[derive(Clone, Copy)]
 pub struct BrakeAnswer {
     pub currents: Vector4f,
     pub controller: ActiveBrakeController,

@@ -1,6 +1,7 @@
 // Program `bit_cases`: standard input has a block that an empty pass accepts. An empty pass is given
 // the block with each of its bits turned, without and with a new check, and cut or lengthened to each
 // length up to 1,024 bytes. Of each a glyph is printed.
+#![tactic(auto)]
 use block_words::word_at;
 use drive_blocks::drive;
 use drive_pass::Pass;

@@ -1,4 +1,5 @@
 // The words of a tick block that are tested and hold no input: the check and the spare ones.
+#![tactic(auto)]
 ghost use Rattle.std.specs.Prelude.{◌≡◌};
 ghost use Rattle.block_check.specs.Check.{check_of, zero_spares, spare_zero};
 

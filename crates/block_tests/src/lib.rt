@@ -1,4 +1,5 @@
 // The tests of a tick block, in document 01's order: 5, 6, 7, 8, 1, 4.
+#![tactic(auto)]
 ghost use Rattle.std.specs.Prelude.{◌≡◌};
 ghost use Rattle.block_tests.specs.Tests.{inputs_tested, format_tested, block_tested, refusal_number};
 
@@ -15,7 +16,7 @@ const VERSION: usize = 0;
 const TICK_LENGTH: usize = 105;
 
 // Why a block is refused, in the order of document 01's numbers.
-#[derive(Drop)]
+#[derive(Clone, Copy)]
 pub enum BlockRefusal {
     // 1: k not 1..64
     TickLength,
@@ -32,7 +33,7 @@ pub enum BlockRefusal {
 }
 
 // What the tests of a block show: its tick length, where it passes them all.
-#[derive(Drop)]
+#[derive(Clone, Copy)]
 pub enum Tested {
     Passed(TickLength),
     Refused(BlockRefusal),

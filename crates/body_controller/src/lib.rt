@@ -1,5 +1,6 @@
 // `BodyController` by value: a tick is the calls sight, plan, steer and finish, in this order, and
 // reset may come at any turn. Each call takes the controller and hands it back beside its answer.
+#![tactic(auto)]
 pub mod controller; // controller.rt: the controller, new, reset and its parts for readers
 pub mod finish; // finish.rt: outputs
 pub mod plan; // plan.rt: the estimate and the decision
@@ -14,12 +15,12 @@ use tick::{Counts, Outputs, Refusal};
 use tick_length::TickLength;
 
 // What is chosen once, at the start.
-#[derive(Drop)]
+#[derive(Clone, Copy)]
 pub struct Choices {
     pub tick: TickLength,
 }
 
-#[derive(Drop)]
+#[derive(Clone, Copy)]
 pub struct BodyController {
     pub(crate) choices: Choices,
     pub(crate) context: ControlContext,
@@ -35,56 +36,56 @@ pub struct BodyController {
 }
 
 // A controller, or document 01's refusal 1.
-#[derive(Drop)]
+#[derive(Clone, Copy)]
 pub enum NewAnswer {
     Made(BodyController),
     Refused(Refusal),
 }
 
-#[derive(Drop)]
+#[derive(Clone, Copy)]
 pub enum FinishAnswer {
     Accepted(Finished),
     Refused(Refusal),
 }
 
-#[derive(Drop)]
+#[derive(Clone, Copy)]
 pub struct FinishResult {
     pub answer: FinishAnswer,
     pub controller: BodyController,
 }
 
-#[derive(Drop)]
+#[derive(Clone, Copy)]
 pub enum PlanCallAnswer {
     Accepted(PlanAnswer),
     Refused(Refusal),
 }
 
-#[derive(Drop)]
+#[derive(Clone, Copy)]
 pub struct PlanResult {
     pub answer: PlanCallAnswer,
     pub controller: BodyController,
 }
 
-#[derive(Drop)]
+#[derive(Clone, Copy)]
 pub enum SightAnswer {
     Accepted(Sighted),
     Refused(Refusal),
 }
 
-#[derive(Drop)]
+#[derive(Clone, Copy)]
 pub struct SightResult {
     pub answer: SightAnswer,
     pub controller: BodyController,
 }
 
-#[derive(Drop)]
+#[derive(Clone, Copy)]
 pub enum SteerAnswer {
     // The friction twist, local and gated.
     Accepted(Vector3f),
     Refused(Refusal),
 }
 
-#[derive(Drop)]
+#[derive(Clone, Copy)]
 pub struct SteerResult {
     pub answer: SteerAnswer,
     pub controller: BodyController,

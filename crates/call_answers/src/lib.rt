@@ -1,5 +1,6 @@
 // What the calls sight, steer and finish work out of their inputs once the context has moved: their
 // answers, and what steer leaves to finish. None of it reads the controller.
+#![tactic(auto)]
 pub mod finish; // finish.rt: the outputs and the marks
 pub mod sight; // sight.rt: measurement and predicted state
 pub mod steer; // steer.rt: the twist's limits and the friction twist
@@ -9,14 +10,14 @@ use na::{Vector3f, Vector4f, Vector6f};
 use tick::Outputs;
 
 // The estimator's eight numbers.
-#[derive(Drop)]
+#[derive(Clone, Copy)]
 pub struct Measurement {
     pub vision_pose: Vector3f,
     pub wheel_vel: Vector4f,
     pub gyro_theta: f32,
 }
 
-#[derive(Drop)]
+#[derive(Clone, Copy)]
 pub struct Sighted {
     pub action: GateAction,
     pub measurement: Measurement,
@@ -27,7 +28,7 @@ pub struct Sighted {
 }
 
 // What steer leaves to finish: limited setpoints, and the cosine and sine of the estimate's heading.
-#[derive(Drop)]
+#[derive(Clone, Copy)]
 pub struct Steered {
     pub body_twist: Vector3f,
     pub body_accel: Vector3f,
@@ -37,13 +38,13 @@ pub struct Steered {
 }
 
 // What steer leaves to finish, beside its answer.
-#[derive(Drop)]
+#[derive(Clone, Copy)]
 pub struct Limited {
     pub friction_twist: Vector3f,
     pub steered: Steered,
 }
 
-#[derive(Drop)]
+#[derive(Clone, Copy)]
 pub struct Finished {
     pub outputs: Outputs,
     // The two clamp marks.

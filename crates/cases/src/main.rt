@@ -1,6 +1,7 @@
 // Program `cases`: document 01's cases that are not proved. Standard input has passes one behind the
 // other, each ended by a refused block; the lines of each are printed, and its last line. Then the
 // tick limit, in full.
+#![tactic(auto)]
 mod limit; // limit.rt: a pass of 16,777,217 blocks
 
 use drive_pass::Pass;

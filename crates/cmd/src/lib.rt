@@ -1,10 +1,11 @@
 // Commands and their words.
+#![tactic(auto)]
 ghost use Rattle.std.specs.Prelude.{◌≡◌};
 ghost use Rattle.cmd.specs.Command.{is_mode, command_from, refusal_number, refusal_of};
 
 use na::Vector3f;
 
-#[derive(Drop)]
+#[derive(Clone, Copy)]
 pub struct GlobalPosition {
     pub target_pose: Vector3f,
     pub max_linear_vel: f32,
@@ -13,7 +14,7 @@ pub struct GlobalPosition {
     pub max_angular_acc: f32,
 }
 
-#[derive(Drop)]
+#[derive(Clone, Copy)]
 pub struct HeadingLine {
     pub global_theta: f32,
     pub start_x: f32,
@@ -30,7 +31,7 @@ pub struct HeadingLine {
     pub colinear_start_thresh: f32,
 }
 
-#[derive(Drop)]
+#[derive(Clone, Copy)]
 pub enum ManeuverCommand {
     Off,
     Brake,
@@ -39,7 +40,7 @@ pub enum ManeuverCommand {
 }
 
 // A block's command words, 24-36, as floats.
-#[derive(Drop)]
+#[derive(Clone, Copy)]
 pub struct CommandWords {
     pub w0: f32,
     pub w1: f32,
@@ -57,7 +58,7 @@ pub struct CommandWords {
 }
 
 // A command, or document 01's refusal 4: the mode is not from 0 to 3.
-#[derive(Drop)]
+#[derive(Clone, Copy)]
 pub enum CommandAnswer {
     Given(ManeuverCommand),
     Refused,

@@ -1,4 +1,5 @@
 // When two commands are equal, and whether the command changed.
+#![tactic(auto)]
 ghost use Rattle.std.specs.Prelude.{◌≡◌};
 ghost use Rattle.cmd.specs.Command.{position_fields, line_fields};
 ghost use Rattle.command_equality.specs.Equality.{fields_equal, equal, command_changed};

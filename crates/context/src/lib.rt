@@ -1,6 +1,7 @@
 // `ControlContext` by value: what the tick's calls keep from tick to tick. The work of sight, plan and
 // steer on it is `context_sight`'s, `context_plan`'s and `context_steer`'s. Whose turn it is, and what is
 // refused, is `body_controller`'s.
+#![tactic(auto)]
 pub mod context; // context.rt: a new context, a reset, a planner failure
 
 use cmd::ManeuverCommand;
@@ -12,12 +13,12 @@ use setpoints::PidMemory;
 use vision::Vision;
 
 // `tracking_divergence_state`, in a struct of its own, as a field that is an enum can't be set.
-#[derive(Drop)]
+#[derive(Clone, Copy)]
 pub struct Divergence {
     pub state: TrackingDivergenceState,
 }
 
-#[derive(Drop)]
+#[derive(Clone, Copy)]
 pub struct ControlContext {
     pub vision: Vision,
     pub memory: Memory,
@@ -29,7 +30,7 @@ pub struct ControlContext {
 }
 
 // What plan leaves to steer.
-#[derive(Drop)]
+#[derive(Clone, Copy)]
 pub struct Planned {
     pub answer: PlanAnswer,
     pub cmd: ManeuverCommand,

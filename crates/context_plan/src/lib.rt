@@ -1,4 +1,5 @@
 // Plan's work on a context: the estimate is set, and what is to be tracked is decided.
+#![tactic(auto)]
 ghost use Rattle.std.specs.Prelude.{◌≡◌};
 ghost use Rattle.context_plan.specs.Plan.{decided_on};
 
@@ -9,7 +10,7 @@ use na::Vector6f;
 use plan_answer::PlanAnswer;
 
 // Plan's answer, beside the context as plan leaves it.
-#[derive(Drop)]
+#[derive(Clone, Copy)]
 pub struct Decided {
     pub answer: PlanAnswer,
     pub context: ControlContext,

@@ -1,4 +1,5 @@
 // Sight's work on a context: the gate judges, and the wheels are enabled.
+#![tactic(auto)]
 ghost use Rattle.std.specs.Prelude.{◌≡◌};
 ghost use Rattle.context_sight.specs.Sight.{seen};
 
@@ -9,7 +10,7 @@ use na::{Vector3f, Vector6f};
 use setpoints::EMPTY_PID;
 
 // The outcome, beside the context as sight leaves it.
-#[derive(Drop)]
+#[derive(Clone, Copy)]
 pub struct Seen {
     pub action: GateAction,
     pub context: ControlContext,

@@ -1,4 +1,5 @@
 // Steer's work on a context: setpoints that track what plan decided, then recovery.
+#![tactic(auto)]
 ghost use Rattle.std.specs.Prelude.{◌≡◌};
 ghost use Rattle.context_steer.specs.Steer.{tracked_sample, recovery_by, recovered, steered};
 
@@ -11,7 +12,7 @@ use setpoints::{ManeuverSetpoints, ZERO_SETPOINTS};
 use tracking::calc_tracking_setpoints;
 
 // Setpoints, beside the context as steer leaves it.
-#[derive(Drop)]
+#[derive(Clone, Copy)]
 pub struct Tracked {
     pub setpoints: ManeuverSetpoints,
     pub context: ControlContext,

@@ -1,8 +1,9 @@
 // Normal or recovering: `TrackingDivergenceState`.
+#![tactic(auto)]
 ghost use Rattle.std.specs.Prelude.{◌≡◌};
 ghost use Rattle.divergence.specs.Divergence.{is_recovering};
 
-#[derive(Drop)]
+#[derive(Clone, Copy)]
 pub enum TrackingDivergenceState {
     Normal,
     Recovering,

@@ -1,6 +1,7 @@
 // Program `drive`: tick blocks from standard input, to its end or to the first refusal; a line for
 // each block to standard output, and the last line. What is read goes to `drive_batch`, and what it
 // gives is written: here is nothing else.
+#![tactic(auto)]
 ghost use Rattle.std.specs.Prelude.{◌<◌};
 
 use drive_pass::Pass;

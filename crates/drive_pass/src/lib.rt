@@ -1,4 +1,5 @@
 // A pass, a term of document 01: its controller, its numbers, and the line of a refused block.
+#![tactic(auto)]
 ghost use Rattle.std.specs.Prelude.{◌≡◌};
 ghost use Rattle.drive_pass.specs.Pass.{next_number, counts_of, refused_by};
 
@@ -7,14 +8,14 @@ use line_text::{Line, RefusedLine};
 use tick::{Counts, NO_COUNTS};
 
 // Before its first accepted block, a pass has no controller: that block's k makes it.
-#[derive(Drop)]
+#[derive(Clone, Copy)]
 pub enum Pass {
     Empty,
     Driving(BodyController),
 }
 
 // A block's line, beside the pass as the block leaves it.
-#[derive(Drop)]
+#[derive(Clone, Copy)]
 pub struct Driven {
     pub line: Line,
     pub pass: Pass,

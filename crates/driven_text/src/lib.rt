@@ -1,4 +1,5 @@
 // A driven block's line as text behind other text, beside the pass that the block leaves.
+#![tactic(auto)]
 ghost use Rattle.std.specs.Prelude.{◌++◌, ◌≡◌, ◌+◌, ◌≤◌, length, take, drop};
 ghost use Rattle.line_text.specs.Text.{line_text};
 ghost use Rattle.driven_text.specs.Written.{is_refused, behind, end_of, written_behind};
@@ -8,7 +9,7 @@ use line_text::{Line, write_line};
 
 // The pass after a block or several, where the text that they gave ends, and whether one was refused,
 // which ends the reading.
-#[derive(Drop)]
+#[derive(Clone, Copy)]
 pub struct Written {
     pub pass: Pass,
     pub len: usize,
@@ -29,7 +30,7 @@ fn append(out: &mut [u8], at: usize, text: &[u8])
     requires { at + length text.now ≤ length out.old }
     ensures { out.new ≡ take at out.old ++ text.now ++ drop (at + length text.now) out.old }
 {
-    bytes::copy(text, &mut out[at..]);
+    out[at..at + text.len()].copy_from_slice(text);
 }
 
 // Puts a line behind the at bytes that are there, where there is room for 128 bytes more; answers

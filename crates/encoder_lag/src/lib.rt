@@ -1,4 +1,5 @@
 // The encoder lag: the `FirstOrderLag` that control_context.rs makes for a tick length.
+#![tactic(auto)]
 ghost use Rattle.std.specs.Prelude.{◌≡◌, true};
 ghost use Rattle.tick_length.specs.TickLength.{is_tick_length, refusal_of};
 ghost use Rattle.encoder_lag.specs.EncoderLag.{duration_to_secs, horizon_over, Castable, n_steps_of, new_lag, lag_of, refusal_number};
@@ -9,7 +10,7 @@ use params::{ENC_LAG_K, ENC_LAG_T_HORIZON, ENC_LAG_T_SLOPE, T_MIN_DEFAULT};
 use tick_length::{TickLength, TickLengthAnswer};
 
 // A lag, or document 01's refusal 1: k is not from 1 to 64.
-#[derive(Drop)]
+#[derive(Clone, Copy)]
 pub enum FirstOrderLagAnswer {
     Made(FirstOrderLag),
     Refused,

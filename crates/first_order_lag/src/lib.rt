@@ -1,17 +1,18 @@
 // `FirstOrderLag` of lib-stm32's model/mod.rs over two axes, by value.
+#![tactic(auto)]
 ghost use Rattle.std.specs.Prelude.{◌≡◌};
 ghost use Rattle.first_order_lag.specs.FirstOrderLag.{x_axis, y_axis, reset_of, stepped_of, inverted_of};
 
 use lag_axis::Axis;
 use na::{Vector2f, ZEROS_2};
 
-#[derive(Drop)]
+#[derive(Clone, Copy)]
 pub struct FirstOrderLagParams {
     pub k: Vector2f,
     pub t_slope: Vector2f,
 }
 
-#[derive(Drop)]
+#[derive(Clone, Copy)]
 pub struct FirstOrderLag {
     pub params: FirstOrderLagParams,
     pub t_min: f32,

@@ -1,5 +1,6 @@
 // A word's float and a float's word, and a float without its sign, each with an answer for every word
 // and every float: document 01, 'Stand-ins', from IEEE 754.
+#![tactic(auto)]
 ghost use Rattle.std.specs.Prelude.{◌≡◌};
 ghost use Rattle.std.specs.Float.{binary32};
 ghost use Rattle.std.specs.Float.Ieee.{of_bits, to_bits};

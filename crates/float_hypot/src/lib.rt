@@ -1,4 +1,5 @@
 // Document 01's stand-in for hypotf.
+#![tactic(auto)]
 ghost use Rattle.std.specs.Prelude.{◌≡◌};
 ghost use Rattle.float_hypot.specs.Hypot.{larger, smaller, scaled_root, outweighs, hypot_of, hypotenuse};
 

@@ -1,4 +1,5 @@
 // IEEE 754 remainder by 2.0 * PI.
+#![tactic(auto)]
 ghost use Rattle.std.specs.Prelude.{◌≡◌};
 ghost use Rattle.std.specs.Float.{binary32};
 ghost use Rattle.std.specs.Float.Ieee.{rem};

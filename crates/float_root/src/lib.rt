@@ -1,5 +1,6 @@
 // IEEE 754 squareRoot at binary32, by whole numbers: the root of a significand, and half of an
 // exponent.
+#![tactic(auto)]
 ghost use Rattle.std.specs.Prelude.{◌≡◌, ◌+◌, ◌*◌, ◌^◌, ◌<◌, ◌≤◌};
 ghost use Rattle.std.specs.Float.{binary32};
 ghost use Rattle.std.specs.Float.Ieee.{of_bits};

@@ -6,7 +6,7 @@ use float_bits::{from_bits, to_bits};
 use float_remainder::remainder;
 use float_root::sqrt;
 
-#[derive(Drop)]
+#[derive(Clone, Copy)]
 pub enum Operation {
     Root,
     Remainder,

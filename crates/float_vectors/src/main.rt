@@ -1,5 +1,6 @@
 // Runs the lists of data/: roots and remainders against those of Rust's libm,
 // words both ways. vectors/ writes the lists. Prints a line for each list, and the first mismatches.
+#![tactic(auto)]
 mod answer; // answer.rt: what is computed of an argument
 mod record; // record.rt: an argument with the answer wanted, and how many of a block disagree
 mod report; // report.rt: what is printed of a mismatch

@@ -1,4 +1,5 @@
 // The gate of `update_state_estimate`: which sightings are taken.
+#![tactic(auto)]
 ghost use Rattle.std.specs.Prelude.{◌≡◌};
 ghost use Rattle.gate.specs.Gate.{seeding_judged, tracking_judged, judged};
 
@@ -8,7 +9,7 @@ use na::{Vector3f, Vector6f};
 use params::{VISION_GATE_BASE_RADIUS_M, VISION_GATE_EXPAND_RATE_M_PER_S, VISION_SEED_SAMPLES};
 use seeding::Seeding;
 
-#[derive(Drop)]
+#[derive(Clone, Copy)]
 pub enum VisionGateState {
     Seeding(Seeding),
     // time_since_last_valid_s, document 01's t.
@@ -16,7 +17,7 @@ pub enum VisionGateState {
 }
 
 // What a tick makes of the gate.
-#[derive(Drop)]
+#[derive(Clone, Copy)]
 pub struct Judgement {
     pub action: GateAction,
     pub gate: VisionGateState,

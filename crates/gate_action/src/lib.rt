@@ -1,9 +1,10 @@
 // The eight outcomes of the gate, and what document 01 says of each.
+#![tactic(auto)]
 ghost use Rattle.std.specs.Prelude.{◌≡◌};
 ghost use Rattle.gate_action.specs.Outcome.{letter_of, takes, overwrites};
 
 // Document 01's outcomes, in its order.
-#[derive(Drop)]
+#[derive(Clone, Copy)]
 pub enum GateAction {
     // quiet, Q
     NoVision,

@@ -1,10 +1,11 @@
 // What the tick's four calls take. Types alone, so that who reads them from a block needs no controller.
+#![tactic(auto)]
 use cmd::CommandWords;
 use matrices::{Matrix3, Matrix3x4, Matrix4x3};
 use memory::Sample;
 use na::{Vector3f, Vector4f, Vector6f};
 
-#[derive(Drop)]
+#[derive(Clone, Copy)]
 pub struct SightInput {
     pub vision_pose_meas: Vector3f,
     // Whether there is a sighting.
@@ -16,7 +17,7 @@ pub struct SightInput {
     pub wheel2twist: Matrix3x4,
 }
 
-#[derive(Drop)]
+#[derive(Clone, Copy)]
 pub struct PlanInput {
     // The estimator's new estimate.
     pub state_estimate: Vector6f,
@@ -26,7 +27,7 @@ pub struct PlanInput {
     pub estimator_failed: bool,
 }
 
-#[derive(Drop)]
+#[derive(Clone, Copy)]
 pub struct SteerInput {
     // What a new plan gives for this tick.
     pub fresh: Sample,
@@ -40,7 +41,7 @@ pub struct SteerInput {
     pub planner_failed: bool,
 }
 
-#[derive(Drop)]
+#[derive(Clone, Copy)]
 pub struct FinishInput {
     // Inverse inertia.
     pub i_inv: Matrix3,

@@ -1,11 +1,12 @@
 // `FirstOrderLag` of lib-stm32's model/mod.rs on one axis.
+#![tactic(auto)]
 ghost use Rattle.std.specs.Prelude.{◌≡◌};
 ghost use Rattle.lag_axis.specs.Axis.{one_over_t, axis_step, axis_invert, lag_turn, iterated};
 
 use float_bits::abs;
 
 // An axis has a gain, a slope and a state of its own; the rest is every axis's.
-#[derive(Drop)]
+#[derive(Clone, Copy)]
 pub struct Axis {
     pub k: f32,
     pub t_slope: f32,

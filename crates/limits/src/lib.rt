@@ -1,4 +1,5 @@
 // Document 01, 'Steer' and 'Finish': the clamps of twist and acceleration.
+#![tactic(auto)]
 ghost use Rattle.std.specs.Prelude.{◌≡◌};
 ghost use Rattle.limits.specs.Limits.{clamped_to, twist_clamped, accel_clamped};
 
@@ -10,7 +11,7 @@ use params::{
 };
 
 // A vector within its bounds, and document 01's clamp mark: an entry is not equal to the one given.
-#[derive(Drop)]
+#[derive(Clone, Copy)]
 pub struct Clamped {
     pub value: Vector3f,
     pub clamped: bool,

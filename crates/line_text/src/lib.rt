@@ -1,5 +1,6 @@
 // The text of program `drive` but its last line: one line for each tick or refused block. A line goes
 // into a lent array that can't be too short; what stands behind it there stays.
+#![tactic(auto)]
 ghost use Rattle.std.specs.Prelude.{◌≤◌, ◌≡◌, ◌++◌, length, drop};
 ghost use Rattle.text_pieces.specs.Puts.{Puts, Within};
 ghost use Rattle.line_text.specs.Text.{ending_text, line_text, refused_text, tick_text};
@@ -13,14 +14,14 @@ use wheels_text::put_wheels;
 pub const LINE: usize = 128;
 
 // What ends a tick's line: its wheel speeds, or the refusal that ended the tick.
-#[derive(Drop)]
+#[derive(Clone, Copy)]
 pub enum Ending {
     Wheels(Vector4f),
     Failed(u8),
 }
 
 // A tick's number, its outcome's letter, its marks at its end, and the ending.
-#[derive(Drop)]
+#[derive(Clone, Copy)]
 pub struct TickLine {
     pub number: u32,
     pub letter: u8,
@@ -30,14 +31,14 @@ pub struct TickLine {
 }
 
 // The number that the block's tick would have had, and why there was none.
-#[derive(Drop)]
+#[derive(Clone, Copy)]
 pub struct RefusedLine {
     pub number: u32,
     pub refusal: u8,
 }
 
 // A line of the text but the last.
-#[derive(Drop)]
+#[derive(Clone, Copy)]
 pub enum Line {
     Tick(TickLine),
     Refused(RefusedLine),

@@ -1,4 +1,5 @@
 // The tick's one decision over mode, halt, recovery and vision.
+#![tactic(auto)]
 ghost use Rattle.std.specs.Prelude.{◌≡◌};
 ghost use Rattle.maneuvers.specs.Plan.{in_mode, maneuver_answer, decided, number_decided};
 ghost use Rattle.plan_answer.specs.Answer.{answer_number};
@@ -10,7 +11,7 @@ use na::Vector6f;
 use plan_answer::PlanAnswer;
 
 // An answer, beside the memory and the previous mode that plan leaves.
-#[derive(Drop)]
+#[derive(Clone, Copy)]
 pub struct Decision {
     pub answer: PlanAnswer,
     pub memory: Memory,

@@ -1,4 +1,5 @@
 // What plan and steer remember: the held sample and the previous command.
+#![tactic(auto)]
 ghost use Rattle.std.specs.Prelude.{◌≡◌};
 ghost use Rattle.memory.specs.Memory.{empty_memory, trajectory_dropped, after_tracking, held_or};
 
@@ -6,26 +7,26 @@ use cmd::ManeuverCommand;
 use na::{Vector3f, Vector6f};
 
 // A sample, a term of document 01: what a trajectory gives for one tick.
-#[derive(Drop)]
+#[derive(Clone, Copy)]
 pub struct Sample {
     pub state: Vector6f,
     pub accel: Vector3f,
 }
 
 // The Rust's `trajectory`, of which the tick sees one sample.
-#[derive(Drop)]
+#[derive(Clone, Copy)]
 pub enum HeldSample {
     Absent,
     Held(Sample),
 }
 
-#[derive(Drop)]
+#[derive(Clone, Copy)]
 pub enum PrevCommand {
     Absent,
     Was(ManeuverCommand),
 }
 
-#[derive(Drop)]
+#[derive(Clone, Copy)]
 pub struct Memory {
     pub held: HeldSample,
     pub prev_cmd: PrevCommand,

@@ -1,19 +1,20 @@
 // nalgebra's vectors, as structs of floats by value, and their zeros. Types and constants alone:
 // nearly every crate reads this one, and `vectors` has the operations.
-#[derive(Drop)]
+#![tactic(auto)]
+#[derive(Clone, Copy)]
 pub struct Vector2f {
     pub x: f32,
     pub y: f32,
 }
 
-#[derive(Drop)]
+#[derive(Clone, Copy)]
 pub struct Vector3f {
     pub x: f32,
     pub y: f32,
     pub z: f32,
 }
 
-#[derive(Drop)]
+#[derive(Clone, Copy)]
 pub struct Vector4f {
     pub x: f32,
     pub y: f32,
@@ -22,7 +23,7 @@ pub struct Vector4f {
 }
 
 // Document 01's six of state: x, y and heading, and their velocities.
-#[derive(Drop)]
+#[derive(Clone, Copy)]
 pub struct Vector6f {
     pub pose: Vector3f,
     pub twist: Vector3f,

@@ -2,10 +2,11 @@
 // under its Rust name and worked out in f32 in the Rust's order; at the end those of other files.
 // Types and constants alone, for most crates read this one; specs/ has the bits of each, and
 // `param_values` ties it to them.
+#![tactic(auto)]
 use na::Vector3f;
 
 // A PID's gains for one axis, a row of the Rust's matrices.
-#[derive(Drop)]
+#[derive(Clone, Copy)]
 pub struct PidGains {
     pub kp: f32,
     pub ki: f32,
@@ -46,7 +47,7 @@ pub const POSE_ACCEL_FEEDBACK_GAIN: f32 = 1.0;
 pub const POSE_VEL_FEEDFORWARD_GAIN: f32 = 1.0;
 
 // The Rust's vector of four, its entries named as its comment names them.
-#[derive(Drop)]
+#[derive(Clone, Copy)]
 pub struct TrackingErrors {
     pub pos_linear: f32,
     pub pos_angular: f32,
@@ -63,7 +64,7 @@ pub const TRACKING_ERROR_THRESHOLD: TrackingErrors = TrackingErrors {
 };
 
 // The Rust's vector of four, its entries named as its comment names them.
-#[derive(Drop)]
+#[derive(Clone, Copy)]
 pub struct FrictionGates {
     pub linear_vel: f32,
     pub linear_accel: f32,

@@ -1,4 +1,5 @@
 // pid.rs: a PID controller by value, for one axis.
+#![tactic(auto)]
 ghost use Rattle.std.specs.Prelude.{◌≡◌};
 ghost use Rattle.pid.specs.Axis.{anti_jitter, limited, calculated, calculated_with_derivative, reset_of, new_controller};
 
@@ -7,20 +8,20 @@ use float_clamp::clamp;
 use params::PidGains;
 
 // The error below which the output is scaled toward zero, if there is one.
-#[derive(Drop)]
+#[derive(Clone, Copy)]
 pub enum AntiJitterThresh {
     Absent,
     Below(f32),
 }
 
 // The bounds of the output, if there are any.
-#[derive(Drop)]
+#[derive(Clone, Copy)]
 pub enum OutputLimits {
     Absent,
     Between(f32, f32),
 }
 
-#[derive(Drop)]
+#[derive(Clone, Copy)]
 pub struct PidController {
     pub gain: PidGains,
     pub anti_jitter_thresh: AntiJitterThresh,
@@ -30,7 +31,7 @@ pub struct PidController {
 }
 
 // What a call answers, beside the controller as the call leaves it.
-#[derive(Drop)]
+#[derive(Clone, Copy)]
 pub struct PidAnswer {
     pub output: f32,
     pub controller: PidController,

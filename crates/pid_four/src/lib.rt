@@ -1,11 +1,12 @@
 // pid.rs, `PidController<4>`: one controller of `pid` for each entry of a vector.
+#![tactic(auto)]
 ghost use Rattle.std.specs.Prelude.{◌≡◌};
 ghost use Rattle.pid_four.specs.Four.{joined4, calculated4, calculated_with_derivative4, reset4};
 
 use na::Vector4f;
 use pid::{PidAnswer, PidController};
 
-#[derive(Drop)]
+#[derive(Clone, Copy)]
 pub struct PidController4 {
     pub x: PidController,
     pub y: PidController,
@@ -13,7 +14,7 @@ pub struct PidController4 {
     pub w: PidController,
 }
 
-#[derive(Drop)]
+#[derive(Clone, Copy)]
 pub struct PidAnswer4 {
     pub output: Vector4f,
     pub controller: PidController4,

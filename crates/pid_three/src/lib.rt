@@ -1,11 +1,12 @@
 // pid.rs, `PidController<3>`: one controller of `pid` for each entry of a vector.
+#![tactic(auto)]
 ghost use Rattle.std.specs.Prelude.{◌≡◌};
 ghost use Rattle.pid_three.specs.Three.{joined3, calculated3, calculated_with_derivative3, reset3};
 
 use na::Vector3f;
 use pid::{PidAnswer, PidController};
 
-#[derive(Drop)]
+#[derive(Clone, Copy)]
 pub struct PidController3 {
     pub x: PidController,
     pub y: PidController,
@@ -13,7 +14,7 @@ pub struct PidController3 {
 }
 
 // What a call answers, beside the controller as the call leaves it.
-#[derive(Drop)]
+#[derive(Clone, Copy)]
 pub struct PidAnswer3 {
     pub output: Vector3f,
     pub controller: PidController3,

@@ -1,11 +1,12 @@
 // Plan's four answers, and what each asks for.
+#![tactic(auto)]
 ghost use Rattle.std.specs.Prelude.{◌≡◌};
 ghost use Rattle.plan_answer.specs.Answer.{disables_wheels, needs_plan};
 
 use na::Vector6f;
 
 // Plan's four answers, terms of document 01. A new plan has its seed.
-#[derive(Drop)]
+#[derive(Clone, Copy)]
 pub enum PlanAnswer {
     Hold,
     NoVision,

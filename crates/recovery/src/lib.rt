@@ -1,4 +1,5 @@
 // Document 01, 'Steer': the tracking error, and what recovery makes of it.
+#![tactic(auto)]
 ghost use Rattle.std.specs.Prelude.{◌≡◌};
 ghost use Rattle.recovery.specs.Recovery.{tracking_errors, tracking_error_exceeded, recovery};
 
@@ -12,14 +13,14 @@ use tracking_limits::{any_exceeds, at_rest};
 use vectors::sub;
 
 // The state of the sample that is held, if one is.
-#[derive(Drop)]
+#[derive(Clone, Copy)]
 pub enum HeldState {
     Absent,
     Held(Vector6f),
 }
 
 // The state after a tick; where `reset` is set, the caller resets the rest too.
-#[derive(Drop)]
+#[derive(Clone, Copy)]
 pub struct RecoveryAnswer {
     pub state: TrackingDivergenceState,
     pub reset: bool,

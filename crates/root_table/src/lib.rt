@@ -2,6 +2,7 @@
 // each of 32 intervals of significands. Only speed rests on these numbers; the contracts keep the
 // guess's differences and products in range. They stand in matches, which compile to tables that no
 // call copies. tools/root_table.py writes this file.
+#![tactic(auto)]
 ghost use Rattle.std.specs.Prelude.{◌%◌, ◌^◌, ◌≤◌, ◌<◌};
 
 // The root at the interval's start and a half, times 2^40. Its last 32 digits are the bend too: how

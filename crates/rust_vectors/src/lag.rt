@@ -11,7 +11,7 @@ use float_bits::{from_bits, to_bits};
 use na::{Vector2f, ZEROS_2};
 
 // What a call leaves: the lag after it, and the output.
-#[derive(Drop)]
+#[derive(Clone, Copy)]
 struct LagAnswer {
     lag: FirstOrderLag,
     output: Vector2f,

@@ -1,7 +1,7 @@
 // How a list is laid out: the number of runs; each run a header and calls.
 ghost use Rattle.std.specs.Prelude.{◌≤◌};
 
-#[derive(Drop)]
+#[derive(Clone, Copy)]
 pub enum ListOf {
     Pid1,
     Pid3,
@@ -10,7 +10,7 @@ pub enum ListOf {
     Lag,
 }
 
-#[derive(Drop)]
+#[derive(Clone, Copy)]
 pub struct Layout {
     // The bytes of a header and of a call.
     pub header: usize,

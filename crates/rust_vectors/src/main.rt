@@ -1,6 +1,7 @@
 // Runs the lists of standard input, one behind the other, against the crates: each holds runs of calls
 // with the answers of the Rust itself, and what it remembers after each call. Answers are compared bit
 // for bit; NaN has one word. Prints a line for each list, and which calls were the first mismatches.
+#![tactic(auto)]
 mod layout; // layout.rt: how a list is laid out
 mod input; // input.rt: a record, as it is read
 mod memory; // memory.rt: the words that an answer is compared by, and the memory in them

@@ -1,4 +1,5 @@
 // A seeding: sightings gathered until their places are known to be steady.
+#![tactic(auto)]
 ghost use Rattle.std.specs.Prelude.{◌≡◌};
 ghost use Rattle.seeding.specs.Seeding.{fresh_seeding, gathered, deviation, steady};
 
@@ -7,7 +8,7 @@ use na::{Vector2f, Vector3f, ZEROS_2};
 use params::VISION_SEED_POS_STD_THRESH_M;
 
 // The sightings of a seeding: how many, the sums of their places and of the squares.
-#[derive(Drop)]
+#[derive(Clone, Copy)]
 pub struct Seeding {
     pub n: u32,
     pub pos_sum: Vector2f,

@@ -1,8 +1,9 @@
 // Setpoints, and what the pose's PID remembers. Types and constants alone, so that a context needs
 // no PID.
+#![tactic(auto)]
 use na::{Vector3f, ZEROS_3};
 
-#[derive(Drop)]
+#[derive(Clone, Copy)]
 pub struct ManeuverSetpoints {
     pub body_twist: Vector3f,
     pub body_accel: Vector3f,
@@ -14,7 +15,7 @@ pub const ZERO_SETPOINTS: ManeuverSetpoints = ManeuverSetpoints {
 };
 
 // What the pose's PID remembers; the rest of it is constant.
-#[derive(Drop)]
+#[derive(Clone, Copy)]
 pub struct PidMemory {
     pub prev_error: Vector3f,
     pub integrated_error: Vector3f,

@@ -1,4 +1,5 @@
 // Document 01, 'Steer': the stop state's speed.
+#![tactic(auto)]
 ghost use Rattle.std.specs.Prelude.{◌≡◌};
 ghost use Rattle.stop.specs.Stop.{stop_scaled};
 

@@ -1,9 +1,10 @@
 // What a list of stored answers has shown.
+#![tactic(auto)]
 ghost use Rattle.std.specs.Prelude.{◌≡◌, ◌-◌};
 ghost use Rattle.tally.specs.Tally.{none_yet, counted};
 
 // What a list has shown so far.
-#[derive(Drop)]
+#[derive(Clone, Copy)]
 pub struct Tally {
     pub records: u64,
     pub mismatches: u64,

@@ -1,11 +1,12 @@
 // Small parts of a tick: the eight counts, the outputs, and the numbers of the refusals.
+#![tactic(auto)]
 pub mod count; // count.rt: how often each outcome came
 pub mod refusals; // refusals.rt: document 01's numbers
 
 use na::{Vector3f, Vector4f, ZEROS_3, ZEROS_4};
 
 // In document 01's order, Q to R, under its words for the outcomes.
-#[derive(Drop)]
+#[derive(Clone, Copy)]
 pub struct Counts {
     pub quiet: u32,
     pub gathered: u32,
@@ -29,7 +30,7 @@ pub const NO_COUNTS: Counts = Counts {
 };
 
 // The outputs, a term of document 01: `BodyController`'s five `_out` and `_out_fric_comp` vectors.
-#[derive(Drop)]
+#[derive(Clone, Copy)]
 pub struct Outputs {
     pub body_twist_out: Vector3f,
     pub body_accel_out: Vector3f,
@@ -48,7 +49,7 @@ pub const NO_OUTPUTS: Outputs = Outputs {
 };
 
 // Document 01, 'When a call is turned away', in its order.
-#[derive(Drop)]
+#[derive(Clone, Copy)]
 pub enum Refusal {
     // 1: k not 1..64
     TickLength,

@@ -1,4 +1,5 @@
 // A lent block of any length is read as a tick block, a term of document 01, or refused.
+#![tactic(auto)]
 ghost use Rattle.std.specs.Prelude.{◌≡◌};
 ghost use Rattle.tick_block.specs.Block.{tick_block, block_read, answer_number, block_refusal};
 
@@ -12,7 +13,7 @@ use tick_length::TickLength;
 // Where the tick number lies, document 01, 'Records'.
 const NUMBER: usize = 1;
 
-#[derive(Drop)]
+#[derive(Clone, Copy)]
 pub struct TickBlock {
     // The tick number, from 0.
     pub number: u32,
@@ -23,7 +24,7 @@ pub struct TickBlock {
     pub finish: FinishInput,
 }
 
-#[derive(Drop)]
+#[derive(Clone, Copy)]
 pub enum BlockAnswer {
     Read(TickBlock),
     Refused(BlockRefusal),

@@ -1,4 +1,5 @@
 // A tick, a term of document 01: the calls sight, plan, steer and finish, and the tick's line.
+#![tactic(auto)]
 ghost use Rattle.std.specs.Prelude.{◌≡◌};
 ghost use Rattle.tick_calls.specs.Tick.{ending_of, ended_by, finished, steered, planned, refused_at, ticked};
 
@@ -7,7 +8,7 @@ use inputs::{FinishInput, PlanInput, SightInput, SteerInput};
 use line_text::{Ending, Line, RefusedLine, TickLine};
 
 // A block's line, and the controller as the block leaves it.
-#[derive(Drop)]
+#[derive(Clone, Copy)]
 pub struct Ticked {
     pub line: Line,
     pub controller: BodyController,

@@ -1,15 +1,16 @@
 // The tick length, a term of document 01: k/4096 s, with k from 1 to 64.
+#![tactic(auto)]
 ghost use Rattle.std.specs.Prelude.{◌≡◌};
 ghost use Rattle.tick_length.specs.TickLength.{tick_length_of, refusal_of, refusal_number, seconds_of, micros_of};
 
 // k is a u8, so that the methods lose nothing at any k and ask for no bound.
-#[derive(Drop)]
+#[derive(Clone, Copy)]
 pub struct TickLength {
     pub k: u8,
 }
 
 // A tick length, or document 01's refusal 1: k is not from 1 to 64.
-#[derive(Drop)]
+#[derive(Clone, Copy)]
 pub enum TickLengthAnswer {
     Made(TickLength),
     Refused,

@@ -1,6 +1,7 @@
 // Program `tick_words`: tick blocks from standard input; for each, 96 words with all that its tick
 // answers and leaves, to standard output. A refused block ends its pass, and the next block begins
 // another. oracle/README.md lists the words.
+#![tactic(auto)]
 mod answers; // answers.rt: the words of the four answers
 mod block; // block.rt: a block's words, and the controller after it
 mod calls; // calls.rt: the four calls

@@ -1,4 +1,5 @@
 // Document 01, 'Steer': control_context.rs from the trajectory's sample to the setpoints.
+#![tactic(auto)]
 ghost use Rattle.std.specs.Prelude.{◌≡◌};
 ghost use Rattle.na.specs.Vector.{zero_float};
 ghost use Rattle.tracking.specs.Setpoints.{pose_axis, axis_answered, pose_answered, wrapped, twist_setpoint, accel_setpoint, tracking_setpoints};
@@ -14,21 +15,21 @@ use setpoints::{ManeuverSetpoints, PidMemory};
 use vectors::{add, scale, sub};
 
 // What tracking answers, beside the PID's memory as the call leaves it.
-#[derive(Drop)]
+#[derive(Clone, Copy)]
 pub struct TrackingAnswer {
     pub setpoints: ManeuverSetpoints,
     pub pid: PidMemory,
 }
 
 // What the pose's PID answers, beside its memory.
-#[derive(Drop)]
+#[derive(Clone, Copy)]
 struct PoseAnswer {
     output: Vector3f,
     pid: PidMemory,
 }
 
 // What an axis answers and remembers: floats alone, for the PID's constants stay as they are.
-#[derive(Drop)]
+#[derive(Clone, Copy)]
 struct AxisAnswer {
     output: f32,
     prev_error: f32,

@@ -1,4 +1,5 @@
 // The gate of `update_state_estimate` and the vision clock together, a tick at a time.
+#![tactic(auto)]
 ghost use Rattle.std.specs.Prelude.{◌≡◌};
 ghost use Rattle.vision.specs.Vision.{clock_after, active, new_vision, vision_after};
 
@@ -8,7 +9,7 @@ use na::{Vector3f, Vector6f};
 use params::{VISION_ACTIVE_TIMEOUT_S, VISION_CLOCK_START_S};
 use seeding::Seeding;
 
-#[derive(Drop)]
+#[derive(Clone, Copy)]
 pub struct Vision {
     pub gate: VisionGateState,
     // Document 01's vision clock.
@@ -16,7 +17,7 @@ pub struct Vision {
 }
 
 // What a tick answers, beside the vision as the tick leaves it.
-#[derive(Drop)]
+#[derive(Clone, Copy)]
 pub struct VisionAnswer {
     pub action: GateAction,
     pub vision: Vision,

@@ -1,4 +1,5 @@
 // Document 01, 'Finish': from the setpoints and the friction force to wheel speeds and torques.
+#![tactic(auto)]
 ghost use Rattle.std.specs.Prelude.{◌≡◌};
 ghost use Rattle.wheels.specs.Outputs.{friction_compensated, finish_outputs};
 
@@ -9,7 +10,7 @@ use na::{Vector3f, Vector4f};
 use vectors::sub;
 
 // `BodyController`'s outputs that finish sets, and the acceleration's clamp mark.
-#[derive(Drop)]
+#[derive(Clone, Copy)]
 pub struct FinishOutputs {
     pub body_accel_out_fric_comp: Vector3f,
     pub accel_clamped: bool,
