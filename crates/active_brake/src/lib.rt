@@ -29,6 +29,7 @@ pub struct BrakeAnswer {
 }
 
 // The brake of a tick length.
+#[tactic(auto, unfolding(crate::specs::Brake::new_brake))]
 fn brake_of(tick: TickLength) -> ActiveBrakeController
     ensures { result ≡ new_brake tick.k }
 {
@@ -43,6 +44,7 @@ fn brake_of(tick: TickLength) -> ActiveBrakeController
 }
 
 impl ActiveBrakeController {
+    #[tactic(auto, using(tick_length::proofs::Answer::made_is, tick_length::proofs::Answer::refused_is), unfolding(crate::specs::Brake::brake_of))]
     pub fn new(k: u32) -> BrakeMade
         ensures { (result ≡ brake_of k) × (refusal_number result ≡ refusal_of k) }
     {
@@ -54,6 +56,7 @@ impl ActiveBrakeController {
     }
 
     // The braking currents for the measured wheel speeds in rad/s.
+    #[tactic(auto, unfolding(crate::specs::Brake::computed, na::specs::Vector::zeros4))]
     pub fn compute(mut self, wheel_vel_meas: Vector4f) -> BrakeAnswer
         ensures { result ≡ computed self wheel_vel_meas }
     {
@@ -69,6 +72,7 @@ impl ActiveBrakeController {
         }
     }
 
+    #[tactic(auto, unfolding(crate::specs::Brake::reset_brake))]
     pub fn reset(mut self) -> ActiveBrakeController
         ensures { result ≡ reset_brake self }
     {

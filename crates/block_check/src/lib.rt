@@ -21,6 +21,7 @@ const SPARES: usize = 21;
 const ALL_FLAGS: u32 = 32;
 
 // What word 127 should be.
+#[tactic(auto, unfolding(crate::specs::Check::word_sum, crate::specs::Check::check_of))]
 pub fn check_of(block: &[u8]) -> u32
     ensures { result ≡ check_of block.now }
 {
@@ -34,6 +35,7 @@ pub fn check_of(block: &[u8]) -> u32
 }
 
 // Whether the 21 spare words are zero.
+#[tactic(auto, unfolding(crate::specs::Check::zero_spares))]
 fn zero_spares(block: &[u8]) -> bool
     ensures { result ≡ zero_spares block.now 21 }
 {
@@ -47,6 +49,7 @@ fn zero_spares(block: &[u8]) -> bool
 }
 
 // Whether the flags and the spare words are as they should be.
+#[tactic(auto, unfolding(crate::specs::Check::spare_zero))]
 pub fn spare_zero(block: &[u8]) -> bool
     ensures { result ≡ spare_zero block.now }
 {

@@ -8,6 +8,7 @@ use float_bits::from_bits;
 use na::{Vector2f, Vector3f, Vector4f};
 
 // The float whose bits are word i.
+#[tactic(auto, unfolding(crate::specs::Floats::float_at))]
 pub fn float_at(block: &[u8], i: usize) -> f32
     ensures { result ≡ float_at block.now i }
 {
@@ -15,6 +16,7 @@ pub fn float_at(block: &[u8], i: usize) -> f32
 }
 
 // The vector whose entries are the words from `at` on, a number of 8 bits, so that no sum overflows.
+#[tactic(auto, unfolding(crate::specs::Floats::vector2_at))]
 pub fn vec2_at(block: &[u8], at: u8) -> Vector2f
     ensures { result ≡ vector2_at block.now at }
 {
@@ -25,6 +27,7 @@ pub fn vec2_at(block: &[u8], at: u8) -> Vector2f
     }
 }
 
+#[tactic(auto, unfolding(crate::specs::Floats::vector3_at))]
 pub fn vec3_at(block: &[u8], at: u8) -> Vector3f
     ensures { result ≡ vector3_at block.now at }
 {
@@ -36,6 +39,7 @@ pub fn vec3_at(block: &[u8], at: u8) -> Vector3f
     }
 }
 
+#[tactic(auto, unfolding(crate::specs::Floats::vector4_at))]
 pub fn vec4_at(block: &[u8], at: u8) -> Vector4f
     ensures { result ≡ vector4_at block.now at }
 {

@@ -20,6 +20,7 @@ pub fn order_refusal(tick: TickLength, own: TickLength, number: u32, next: u32) 
 }
 
 // Whether one more block of a batch is driven, after i of them: its line has room, none was refused, and bytes are left.
+#[tactic(auto, unfolding(crate::specs::Order::goes_on))]
 pub fn goes_on(i: usize, room: usize, refused: bool, start: usize, len: usize) -> bool
     ensures { result ≡ goes_on i room refused start len }
 {

@@ -56,6 +56,7 @@ impl BlockRefusal {
 }
 
 // The last two tests: 1, then 4.
+#[tactic(auto, unfolding(crate::specs::Tests::inputs_tested))]
 fn inputs_tested(block: &[u8]) -> Tested
     ensures { result ≡ inputs_tested block.now }
 {
@@ -74,6 +75,7 @@ fn inputs_tested(block: &[u8]) -> Tested
 }
 
 // The tests between: 7, then 8.
+#[tactic(auto, unfolding(crate::specs::Tests::format_tested))]
 fn format_tested(block: &[u8]) -> Tested
     ensures { result ≡ format_tested block.now }
 {
@@ -87,6 +89,7 @@ fn format_tested(block: &[u8]) -> Tested
 }
 
 // The first two tests, 5 and then 6, and the others after them.
+#[tactic(auto, unfolding(crate::specs::Tests::block_tested))]
 pub fn block_tested(block: &[u8]) -> Tested
     ensures { result ≡ block_tested block.now }
 {

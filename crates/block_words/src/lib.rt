@@ -22,6 +22,7 @@ fn word_from(block: &[u8], at: usize) -> u32
 }
 
 // Word i of the block, and 0 past its last whole word.
+#[tactic(auto, unfolding(crate::specs::Word::word_at))]
 pub fn word_at(block: &[u8], i: usize) -> u32
     ensures { result ≡ word_at block.now i }
 {

@@ -24,6 +24,7 @@ pub const STEER: u8 = 2;
 
 pub const FINISH: u8 = 3;
 
+#[tactic(auto, unfolding(tick::specs::Outputs::no_outputs, na::specs::Vector::zeros3, na::specs::Vector::zeros4))]
 fn no_outputs() -> Outputs
     ensures { result ≡ no_outputs }
 {
@@ -32,6 +33,7 @@ fn no_outputs() -> Outputs
 
 impl BodyController {
     // The Rust's new controller, with nothing counted, at sight's turn.
+    #[tactic(auto, unfolding(crate::specs::Controller::started, na::specs::Vector::zeros3, na::specs::Vector::zeros6, tick::specs::Counts::no_counts))]
     fn start(choices: Choices) -> BodyController
         ensures { result ≡ started choices }
     {
@@ -60,6 +62,7 @@ impl BodyController {
         }
     }
 
+    #[tactic(auto, unfolding(crate::specs::Controller::new_of))]
     pub fn new(k: u32) -> NewAnswer
         ensures { (result ≡ new_of k) × (new_number result ≡ refusal_of k) }
     {
@@ -122,6 +125,7 @@ impl BodyController {
     }
 
     // The reset call, accepted at any turn. Counts, tick number and estimate stay.
+    #[tactic(auto, unfolding(crate::specs::Controller::reset_of))]
     pub fn reset(mut self) -> BodyController
         ensures { result ≡ reset_of self }
     {

@@ -10,6 +10,7 @@ use tick::Refusal;
 
 impl BodyController {
     // Finish's turn is FINISH and what lies above it, where no call leads.
+    #[tactic(auto, unfolding(crate::specs::Finish::finish_of))]
     pub fn finish(mut self, i: FinishInput) -> FinishResult
         ensures { (result ≡ finish_of self i) × (finish_number result.answer ≡ finish_refusal self) }
     {

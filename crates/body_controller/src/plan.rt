@@ -12,6 +12,7 @@ use tick::Refusal;
 
 impl BodyController {
     // The controller after the decision on this command.
+    #[tactic(auto, unfolding(crate::specs::Plan::planned))]
     fn decide(mut self, i: PlanInput, cmd: ManeuverCommand) -> PlanResult
         ensures { result ≡ planned self i cmd }
     {
@@ -28,6 +29,7 @@ impl BodyController {
         }
     }
 
+    #[tactic(auto, unfolding(crate::specs::Plan::plan_refused))]
     fn refuse_plan(self, refusal: Refusal) -> PlanResult
         ensures { result ≡ plan_refused refusal self }
     {
@@ -37,6 +39,7 @@ impl BodyController {
         }
     }
 
+    #[tactic(auto, using(crate::proofs::Numbers::plan_turn), unfolding(crate::specs::Plan::plan_of, crate::specs::Plan::plan_refused))]
     pub fn plan(mut self, i: PlanInput) -> PlanResult
         ensures { (result ≡ plan_of self i) × (plan_number result.answer ≡ plan_refusal self i) }
     {

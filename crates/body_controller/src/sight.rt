@@ -14,6 +14,7 @@ pub const TICK_LIMIT: u32 = 16_777_216;
 
 impl BodyController {
     // The controller after the gate judged.
+    #[tactic(auto, unfolding(crate::specs::Sight::sighted))]
     fn see(mut self, i: SightInput) -> SightResult
         ensures { result ≡ sighted self i }
     {
@@ -36,6 +37,7 @@ impl BodyController {
         }
     }
 
+    #[tactic(auto, unfolding(crate::specs::Sight::sight_of, crate::specs::Sight::sighted))]
     pub fn sight(self, i: SightInput) -> SightResult
         ensures { (result ≡ sight_of self i) × (sight_number result.answer ≡ sight_refusal self) }
     {

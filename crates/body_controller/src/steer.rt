@@ -11,6 +11,7 @@ use tick::Refusal;
 
 impl BodyController {
     // The context steered, and its setpoints limited; finish is next.
+    #[tactic(auto, unfolding(crate::specs::Steer::steered))]
     fn steer_by(mut self, i: SteerInput) -> SteerResult
         ensures { result ≡ steered self i }
     {
@@ -43,6 +44,7 @@ impl BodyController {
     }
 
     // A planner failure drops the trajectory and closes the tick.
+    #[tactic(auto, unfolding(crate::specs::Steer::planner_failed))]
     fn fail_plan(mut self) -> SteerResult
         ensures { result ≡ planner_failed self }
     {
@@ -54,6 +56,7 @@ impl BodyController {
         }
     }
 
+    #[tactic(auto, unfolding(crate::specs::Steer::steer_of, crate::specs::Steer::planner_failed, crate::specs::Steer::steered))]
     pub fn steer(self, i: SteerInput) -> SteerResult
         ensures { (result ≡ steer_of self i) × (steer_number result.answer ≡ steer_refusal self i) }
     {

@@ -7,6 +7,7 @@ use params::{BRAKE_ANTI_JITTER_RADS, BRAKE_KP, BRAKE_MAX_CURRENT_A, PidGains};
 use pid::{AntiJitterThresh, OutputLimits, PidController};
 
 // Ki and Kd are zero, as in the Rust.
+#[tactic(auto, unfolding(crate::specs::Wheel::wheel_controller))]
 pub fn wheel_controller() -> PidController
     ensures { result ≡ wheel_controller }
 {

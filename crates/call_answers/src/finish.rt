@@ -8,6 +8,7 @@ use tick::Outputs;
 use wheels::finish_outputs;
 
 // The outputs that steer's setpoints give, and the marks.
+#[tactic(auto, unfolding(crate::specs::Finish::finished_by))]
 pub fn finish_by(s: Steered, i: FinishInput, wheels_disabled: bool) -> Finished
     ensures { result ≡ finished_by s i wheels_disabled }
 {

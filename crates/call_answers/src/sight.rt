@@ -7,6 +7,7 @@ use gate_action::GateAction;
 use inputs::SightInput;
 use prediction::predict_after;
 
+#[tactic(auto, unfolding(crate::specs::Sight::sight_answer))]
 pub fn sight_answer(action: GateAction, i: SightInput) -> Sighted
     ensures { result ≡ sight_answer action i }
 {

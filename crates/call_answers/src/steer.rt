@@ -9,6 +9,7 @@ use na::{Vector3f, Vector6f};
 use stop::stop_scaled;
 
 // The tick's setpoints, limited, and the friction twist.
+#[tactic(auto, unfolding(crate::specs::Steer::limited))]
 pub fn limit(
     twist: Vector3f,
     body_accel: Vector3f,

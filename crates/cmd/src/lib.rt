@@ -72,6 +72,7 @@ pub fn is_mode(mode: u32) -> bool
 
 impl ManeuverCommand {
     // The command of a mode number. Words that its mode does not use are not read.
+    #[tactic(auto, unfolding(crate::specs::Command::command_from, crate::specs::Command::position_from, crate::specs::Command::line_from))]
     pub fn from_words(mode: u32, w: CommandWords) -> CommandAnswer
         ensures { (result ≡ command_from mode w) × (refusal_number result ≡ refusal_of mode) }
     {

@@ -7,6 +7,7 @@ ghost use Rattle.command_equality.specs.Equality.{fields_equal, equal, command_c
 use cmd::{GlobalPosition, HeadingLine, ManeuverCommand};
 use memory::PrevCommand;
 
+#[tactic(auto, using(crate::proofs::Fields::from_left_lem), unfolding(crate::proofs::Fields::from_left))]
 fn positions_equal(p: GlobalPosition, o: GlobalPosition) -> bool
     ensures { result ≡ fields_equal (position_fields p) (position_fields o) }
 {
@@ -19,6 +20,7 @@ fn positions_equal(p: GlobalPosition, o: GlobalPosition) -> bool
         & (p.max_angular_acc == o.max_angular_acc)
 }
 
+#[tactic(auto, using(crate::proofs::Fields::from_left_lem), unfolding(crate::proofs::Fields::from_left))]
 fn lines_equal(l: HeadingLine, o: HeadingLine) -> bool
     ensures { result ≡ fields_equal (line_fields l) (line_fields o) }
 {
@@ -38,6 +40,7 @@ fn lines_equal(l: HeadingLine, o: HeadingLine) -> bool
 }
 
 // Same kind, and the fields equal as floats: a NaN equals nothing, and -0.0 equals 0.0.
+#[tactic(auto, unfolding(crate::specs::Equality::equal, crate::specs::Equality::fields_equal))]
 pub fn commands_equal(c: ManeuverCommand, o: ManeuverCommand) -> bool
     ensures { result ≡ equal c o }
 {
@@ -69,6 +72,7 @@ pub fn commands_equal(c: ManeuverCommand, o: ManeuverCommand) -> bool
     }
 }
 
+#[tactic(auto, unfolding(crate::specs::Equality::command_changed))]
 pub fn command_changed(prev_cmd: PrevCommand, cmd: ManeuverCommand) -> bool
     ensures { result ≡ command_changed prev_cmd cmd }
 {

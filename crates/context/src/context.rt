@@ -11,6 +11,7 @@ use vision::Vision;
 
 impl ControlContext {
     // The Rust's new context, around this estimate.
+    #[tactic(auto, unfolding(crate::specs::Context::new_context, setpoints::specs::Setpoints::empty_pid, na::specs::Vector::zeros3))]
     pub fn new(state_estimate: Vector6f) -> ControlContext
         ensures { result ≡ new_context state_estimate }
     {
@@ -28,6 +29,7 @@ impl ControlContext {
     }
 
     // `reset`, where recovery ends: the previous mode and the wheels' disabled mark stay.
+    #[tactic(auto, unfolding(crate::specs::Context::context_reset, crate::specs::Context::new_context))]
     pub fn reset(self) -> ControlContext
         ensures { result ≡ context_reset self }
     {
@@ -38,6 +40,7 @@ impl ControlContext {
     }
 
     // A planner failure drops the trajectory.
+    #[tactic(auto, unfolding(crate::specs::Context::planner_failed))]
     pub fn fail_plan(mut self) -> ControlContext
         ensures { result ≡ planner_failed self }
     {

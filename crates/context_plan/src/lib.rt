@@ -17,6 +17,7 @@ pub struct Decided {
 }
 
 // Plan sets the estimate and decides on the command.
+#[tactic(auto, unfolding(crate::specs::Plan::decided_on))]
 pub fn decide_on(
     mut context: ControlContext,
     mode: u32,

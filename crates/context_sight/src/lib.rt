@@ -17,6 +17,7 @@ pub struct Seen {
 }
 
 // Sight enables the wheels; where its outcome overwrites, both memories are dropped.
+#[tactic(auto, unfolding(crate::specs::Sight::seen, setpoints::specs::Setpoints::empty_pid, na::specs::Vector::zeros3))]
 pub fn see(
     mut context: ControlContext,
     vision_update: bool,

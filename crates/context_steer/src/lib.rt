@@ -72,6 +72,7 @@ fn recovery_of(
     }
 }
 
+#[tactic(auto, unfolding(crate::specs::Steer::recovered))]
 fn recover(mut context: ControlContext, wheel_vel_meas: Vector4f) -> ControlContext
     ensures { result ≡ recovered context wheel_vel_meas }
 {
@@ -91,6 +92,7 @@ fn recover(mut context: ControlContext, wheel_vel_meas: Vector4f) -> ControlCont
 }
 
 // Setpoints, then recovery. After tracking the next sample is held, and the command is the previous one.
+#[tactic(auto, unfolding(crate::specs::Steer::steered, crate::specs::Steer::followed, setpoints::specs::Setpoints::zero_setpoints, na::specs::Vector::zeros3, crate::specs::Steer::tracked))]
 pub fn steer(
     mut context: ControlContext,
     p: Planned,

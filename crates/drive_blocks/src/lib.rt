@@ -11,6 +11,7 @@ use tick_block::{BlockAnswer, TickBlock, read};
 use tick_calls::drive_tick;
 
 // A tick's line and controller, as a block's line and pass.
+#[tactic(auto, unfolding(crate::specs::Blocks::carried))]
 fn carry(line: Line, c: BodyController) -> Driven
     ensures { result ≡ carried line c }
 {
@@ -21,6 +22,7 @@ fn carry(line: Line, c: BodyController) -> Driven
 }
 
 // A tick on the block's inputs.
+#[tactic(auto, unfolding(crate::specs::Blocks::ticked_on))]
 fn drive_on(c: BodyController, b: TickBlock) -> Driven
     ensures { result ≡ ticked_on c b }
 {
@@ -30,6 +32,7 @@ fn drive_on(c: BodyController, b: TickBlock) -> Driven
 }
 
 // The first block: its k makes the controller.
+#[tactic(auto, unfolding(crate::specs::Blocks::begun))]
 fn begin(pass: Pass, b: TickBlock) -> Driven
     ensures { result ≡ begun pass b }
 {
@@ -44,6 +47,7 @@ fn begin(pass: Pass, b: TickBlock) -> Driven
     }
 }
 
+#[tactic(auto, unfolding(crate::specs::Blocks::taken))]
 fn take(pass: Pass, b: TickBlock) -> Driven
     ensures { result ≡ taken pass b }
 {
@@ -65,6 +69,7 @@ fn take(pass: Pass, b: TickBlock) -> Driven
 }
 
 // A block's line and the next pass.
+#[tactic(auto, unfolding(crate::specs::Blocks::driven))]
 pub fn drive(pass: Pass, block: &[u8]) -> Driven
     ensures value { result ≡ driven pass block.now }
     ensures block_value { block.now ≡ block.now }

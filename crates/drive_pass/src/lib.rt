@@ -32,6 +32,7 @@ impl Pass {
         }
     }
 
+    #[tactic(auto, unfolding(tick::specs::Counts::no_counts))]
     pub fn counts(self) -> Counts
         ensures { result ≡ counts_of self }
     {
@@ -42,6 +43,7 @@ impl Pass {
     }
 
     // A refused block's line; the pass stays.
+    #[tactic(auto, unfolding(crate::specs::Pass::refused_by))]
     pub fn refuse(self, refusal: u8) -> Driven
         ensures { result ≡ refused_by refusal self }
     {

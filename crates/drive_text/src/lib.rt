@@ -11,6 +11,7 @@ use drive_pass::Pass;
 use driven_text::{Written, write_driven};
 
 // Drives a block, and puts its line at the start of buf; what stands behind the line stays.
+#[tactic(auto, using(text_pieces::proofs::Placing::within), unfolding(crate::specs::Written::written, crate::specs::Written::block_text, driven_text::specs::Written::written_behind, driven_text::specs::Written::end_of, driven_text::specs::Written::behind))]
 pub fn drive_block(pass: Pass, block: &[u8], buf: &mut [u8; 128]) -> Written
     ensures value { result ≡ written pass block.now }
     ensures buf_after { buf.new ≡ block_text pass block.now ++ drop (length (block_text pass block.now)) buf.old }
@@ -21,6 +22,7 @@ pub fn drive_block(pass: Pass, block: &[u8], buf: &mut [u8; 128]) -> Written
 }
 
 // Drives one block more, its line behind the text that is there.
+#[tactic(auto, unfolding(crate::specs::Batch::next_of, crate::specs::Written::written, crate::specs::Written::block_text, driven_text::specs::Written::written_behind, driven_text::specs::Written::end_of, driven_text::specs::Written::behind))]
 fn drive_next(pass: Pass, at: usize, block: &[u8], out: &mut [u8]) -> Written
     requires { at + 128 ≤ length out.old }
     ensures value { result ≡ next_of pass at block.now }
@@ -40,6 +42,7 @@ fn block_end(start: usize, len: usize) -> usize
 
 // Drives blocks of 512 bytes to their end or to the first refusal, as many as `out` has room for at
 // 128 bytes a line, and puts their text at the start of out; what stands behind it stays.
+#[tactic(auto, using(crate::proofs::Going::begin, crate::proofs::Going::turn, crate::proofs::Going::ended, crate::proofs::Going::stopped, crate::proofs::Going::going_on), unfolding(crate::specs::Batch::batch_into))]
 pub fn drive_batch(pass: Pass, blocks: &[u8], out: &mut [u8]) -> Written
     ensures value { result ≡ answer_of (batch_into out.old pass blocks.now) }
     ensures out_after { out.new ≡ text_of (batch_into out.old pass blocks.now).lines ++ drop result.len out.old }

@@ -35,6 +35,7 @@ fn append(out: &mut [u8], at: usize, text: &[u8])
 
 // Puts a line behind the at bytes that are there, where there is room for 128 bytes more; answers
 // where the text ends.
+#[tactic(auto, unfolding(crate::specs::Written::behind, crate::specs::Written::end_of))]
 fn append_line(out: &mut [u8], at: usize, line: Line) -> usize
     ensures value { result ≡ end_of (length out.old) at line }
     ensures out_after { out.new ≡ behind out.old at (line_text line) }
@@ -54,6 +55,7 @@ fn append_line(out: &mut [u8], at: usize, line: Line) -> usize
 
 // Puts a driven block's line behind the at bytes that are there, where there is room for 128 bytes
 // more; what stands behind it stays.
+#[tactic(auto, unfolding(crate::specs::Written::written_behind))]
 pub fn write_driven(driven: Driven, at: usize, out: &mut [u8]) -> Written
     ensures value { result ≡ written_behind (length out.old) at driven }
     ensures out_after { out.new ≡ behind out.old at (line_text driven.line) }

@@ -16,6 +16,7 @@ pub enum FirstOrderLagAnswer {
     Refused,
 }
 
+#[tactic(auto, unfolding(crate::specs::EncoderLag::duration_to_secs))]
 fn duration_to_secs(micros: u32) -> f32
     ensures { result ≡ duration_to_secs micros }
 {
@@ -23,6 +24,7 @@ fn duration_to_secs(micros: u32) -> f32
 }
 
 // The horizon in timesteps, rounded to the nearest whole number, and 1 at least.
+#[tactic(auto, unfolding(crate::specs::EncoderLag::horizon_over, crate::specs::EncoderLag::n_steps_of))]
 fn n_steps_of(dt_secs: f32) -> usize
     requires { Castable (horizon_over dt_secs) }
     ensures { result ≡ n_steps_of dt_secs }
@@ -33,6 +35,7 @@ fn n_steps_of(dt_secs: f32) -> usize
 }
 
 // The lag of a tick length, at rest, both axes alike.
+#[tactic(auto, using(crate::proofs::Range::horizon_castable), unfolding(crate::specs::EncoderLag::dt_of, crate::specs::EncoderLag::new_lag, na::specs::Vector::zeros2))]
 fn lag_of(t: TickLength) -> FirstOrderLag
     requires { is_tick_length t.k ≡ true }
     ensures { result ≡ new_lag t.k }
@@ -57,6 +60,7 @@ fn lag_of(t: TickLength) -> FirstOrderLag
 }
 
 // What control_context.rs makes by `FirstOrderLag::new_from_horizon`.
+#[tactic(auto, using(tick_length::proofs::Answer::made_is, tick_length::proofs::Answer::refused_is), unfolding(crate::specs::EncoderLag::lag_of))]
 pub fn new_from_horizon(k: u32) -> FirstOrderLagAnswer
     ensures { (result ≡ lag_of k) × (refusal_number result ≡ refusal_of k) }
 {

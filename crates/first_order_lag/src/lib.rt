@@ -34,6 +34,7 @@ impl FirstOrderLag {
         self.n_steps
     }
 
+    #[tactic(auto, unfolding(crate::specs::FirstOrderLag::reset_of, na::specs::Vector::zeros2))]
     pub fn reset(mut self) -> Self
         ensures { result ≡ reset_of self }
     {
@@ -42,6 +43,7 @@ impl FirstOrderLag {
         self
     }
 
+    #[tactic(auto, unfolding(crate::specs::FirstOrderLag::x_axis))]
     fn x_axis(self) -> Axis
         ensures { result ≡ x_axis self }
     {
@@ -55,6 +57,7 @@ impl FirstOrderLag {
         }
     }
 
+    #[tactic(auto, unfolding(crate::specs::FirstOrderLag::y_axis))]
     fn y_axis(self) -> Axis
         ensures { result ≡ y_axis self }
     {
@@ -69,6 +72,7 @@ impl FirstOrderLag {
     }
 
     // One timestep at an input.
+    #[tactic(auto, unfolding(crate::specs::FirstOrderLag::stepped_of))]
     pub fn step(mut self, input: Vector2f) -> Self
         ensures { result ≡ stepped_of self input }
     {
@@ -80,6 +84,7 @@ impl FirstOrderLag {
     }
 
     // The input that is to bring the state to `desired`.
+    #[tactic(auto, unfolding(crate::specs::FirstOrderLag::inverted_of))]
     pub fn invert(self, desired: Vector2f) -> Vector2f
         ensures { result ≡ inverted_of self desired }
     {

@@ -7,6 +7,7 @@ ghost use Rattle.std.specs.Float.Ieee.{of_bits, to_bits};
 ghost use Rattle.float_bits.specs.Magnitude.{magnitude};
 
 // The float that a word stands for; any NaN's pattern is read as NaN.
+#[tactic(auto, using(crate::proofs::Words::nan_word_read))]
 pub fn from_bits(w: u32) -> f32
     ensures { result ≡ of_bits binary32 w }
 {
@@ -18,6 +19,7 @@ pub fn from_bits(w: u32) -> f32
 }
 
 // A float's word; NaN is written 7fc00000.
+#[tactic(auto, using(crate::proofs::Words::equal_number))]
 pub fn to_bits(x: f32) -> u32
     ensures { result ≡ to_bits binary32 x }
 {
@@ -25,6 +27,7 @@ pub fn to_bits(x: f32) -> u32
 }
 
 // fabsf: x without its sign.
+#[tactic(auto, using(crate::proofs::Words::equal_number, crate::proofs::Words::number_word, crate::proofs::Magnitudes::magnitude_read), unfolding(crate::specs::Magnitude::magnitude))]
 pub fn abs(x: f32) -> f32
     ensures { result ≡ magnitude x }
 {

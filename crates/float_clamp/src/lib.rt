@@ -4,6 +4,7 @@ ghost use Rattle.std.specs.Prelude.{◌≡◌};
 ghost use Rattle.float_clamp.specs.Clamp.{clamp_between, clamp_within};
 
 // `clamp` of pid.rs: NaN gives lo.
+#[tactic(auto, unfolding(crate::specs::Clamp::clamp_between))]
 pub fn clamp(v: f32, lo: f32, hi: f32) -> f32
     ensures { result ≡ clamp_between v lo hi }
 {
@@ -15,6 +16,7 @@ pub fn clamp(v: f32, lo: f32, hi: f32) -> f32
 }
 
 // `f32::clamp` to -bound and bound: NaN stays NaN.
+#[tactic(auto, unfolding(crate::specs::Clamp::clamp_within))]
 pub fn clamp_within(v: f32, bound: f32) -> f32
     ensures { result ≡ clamp_within v bound }
 {

@@ -15,6 +15,7 @@ const TWO_90: f32 = 1.2379400392853803e27;
 const TWO_MINUS_90: f32 = 8.077935669463161e-28;
 
 // The root of a * a + b * b, each step rounded, with both scaled by `by`, and scaled back by `back`.
+#[tactic(auto, unfolding(crate::specs::Hypot::scaled_root, crate::specs::Hypot::root_of_squares))]
 fn scaled_root(by: f32, back: f32, a: f32, b: f32) -> f32
     ensures { result ≡ scaled_root by back a b }
 {
@@ -24,6 +25,7 @@ fn scaled_root(by: f32, back: f32, a: f32, b: f32) -> f32
 }
 
 // Whether b is zero, or too small beside a to count. The sum is at 64 bits, where it cannot wrap.
+#[tactic(auto, unfolding(crate::specs::Hypot::outweighs))]
 fn outweigh(a: f32, b: f32) -> bool
     ensures { result ≡ outweighs a b }
 {
@@ -31,6 +33,7 @@ fn outweigh(a: f32, b: f32) -> bool
 }
 
 // hypotf of the larger magnitude and the smaller one.
+#[tactic(auto, unfolding(crate::specs::Hypot::hypot_of, crate::specs::Hypot::root_of_squares))]
 fn hypot_of(a: f32, b: f32) -> f32
     ensures { result ≡ hypot_of a b }
 {
@@ -47,6 +50,7 @@ fn hypot_of(a: f32, b: f32) -> f32
 }
 
 // The larger of two numbers.
+#[tactic(auto, unfolding(crate::specs::Hypot::larger))]
 fn larger(p: f32, q: f32) -> f32
     ensures { result ≡ larger p q }
 {
@@ -54,6 +58,7 @@ fn larger(p: f32, q: f32) -> f32
 }
 
 // The smaller of two numbers.
+#[tactic(auto, unfolding(crate::specs::Hypot::smaller))]
 fn smaller(p: f32, q: f32) -> f32
     ensures { result ≡ smaller p q }
 {
@@ -61,6 +66,7 @@ fn smaller(p: f32, q: f32) -> f32
 }
 
 // hypotf. The usual case, two finite numbers, comes first.
+#[tactic(auto, unfolding(crate::specs::Hypot::hypotenuse, float_bits::specs::Magnitude::magnitude))]
 pub fn hypot(x: f32, y: f32) -> f32
     ensures { result ≡ hypotenuse x y }
 {

@@ -9,6 +9,7 @@ use matrices::rotation::rotate_to_local;
 use na::{Vector3f, Vector6f};
 use params::FRICTION_COMP_GATING;
 
+#[tactic(auto, unfolding(crate::specs::Friction::linear_comp_on))]
 fn linear_comp_on(vel: Vector3f, accel: Vector3f) -> bool
     ensures { result ≡ linear_comp_on vel accel }
 {
@@ -16,6 +17,7 @@ fn linear_comp_on(vel: Vector3f, accel: Vector3f) -> bool
         | (hypot(vel.x, vel.y) >= FRICTION_COMP_GATING.linear_vel)
 }
 
+#[tactic(auto, unfolding(crate::specs::Friction::angular_comp_on))]
 fn angular_comp_on(vel: Vector3f, accel: Vector3f) -> bool
     ensures { result ≡ angular_comp_on vel accel }
 {
@@ -23,6 +25,7 @@ fn angular_comp_on(vel: Vector3f, accel: Vector3f) -> bool
         | (abs(vel.z) >= FRICTION_COMP_GATING.angular_vel)
 }
 
+#[tactic(auto, unfolding(crate::specs::Friction::kept_if))]
 fn kept_if(on: bool, x: f32) -> f32
     ensures { result ≡ kept_if on x }
 {
@@ -30,6 +33,7 @@ fn kept_if(on: bool, x: f32) -> f32
 }
 
 // c and s are the cosine and sine of the estimate's heading.
+#[tactic(auto, unfolding(crate::specs::Friction::friction_twist))]
 pub fn friction_twist(
     c: f32,
     s: f32,

@@ -24,6 +24,7 @@ pub struct Judgement {
 }
 
 // What becomes of a seeding that has just gathered a sighting.
+#[tactic(auto, unfolding(crate::specs::Gate::seeding_judged))]
 fn judge_seeding(s: Seeding) -> Judgement
     ensures { result ≡ seeding_judged s }
 {
@@ -46,6 +47,7 @@ fn judge_seeding(s: Seeding) -> Judgement
 }
 
 // What becomes of a sighting at this distance while tracking.
+#[tactic(auto, unfolding(crate::specs::Gate::tracking_judged, crate::specs::Gate::radius))]
 fn judge_tracking(t: f32, dist: f32, dt: f32) -> Judgement
     ensures { result ≡ tracking_judged t dist dt }
 {
@@ -79,6 +81,7 @@ fn judge_tracking(t: f32, dist: f32, dt: f32) -> Judgement
 impl VisionGateState {
     // The judgement of one tick; `seen` says whether there is a sighting. Without one the radius of a
     // tracking gate grows on.
+    #[tactic(auto, unfolding(crate::specs::Gate::judged, crate::specs::Gate::sighting_judged, crate::specs::Gate::quiet, crate::specs::Gate::distance))]
     pub fn judge(self, seen: bool, sighting: Vector3f, predicted: Vector6f, dt: f32) -> Judgement
         ensures { result ≡ judged self seen sighting predicted dt }
     {

@@ -17,6 +17,7 @@ pub struct Axis {
 }
 
 // The loop of `invert`: n times cmd = one_minus_a * cmd + target.
+#[tactic(auto, unfolding(crate::specs::Axis::iterated))]
 fn iterate(n: usize, one_minus_a: f32, target: f32, desired: f32) -> f32
     ensures { result ≡ iterated n (lag_turn one_minus_a target) desired }
 {
@@ -31,6 +32,7 @@ fn iterate(n: usize, one_minus_a: f32, target: f32, desired: f32) -> f32
 
 impl Axis {
     // 1 / T_eff at an input.
+    #[tactic(auto, unfolding(crate::specs::Axis::one_over_t))]
     fn one_over_t(self, input: f32) -> f32
         ensures { result ≡ one_over_t self input }
     {
@@ -39,6 +41,7 @@ impl Axis {
     }
 
     // The state after one timestep at an input.
+    #[tactic(auto, unfolding(crate::specs::Axis::axis_step))]
     pub fn step(self, input: f32) -> f32
         ensures { result ≡ axis_step self input }
     {
@@ -47,6 +50,7 @@ impl Axis {
     }
 
     // The input that is to bring the state to `desired`.
+    #[tactic(auto, unfolding(crate::specs::Axis::axis_invert))]
     pub fn invert(self, desired: f32) -> f32
         ensures { result ≡ axis_invert self desired }
     {

@@ -18,6 +18,7 @@ pub struct Clamped {
 }
 
 // NaN stays, and is marked: it is not equal to itself.
+#[tactic(auto, unfolding(crate::specs::Limits::clamped_to))]
 fn clamp_to(linear: f32, angular: f32, v: Vector3f) -> Clamped
     ensures { result ≡ clamped_to linear angular v }
 {
@@ -30,12 +31,14 @@ fn clamp_to(linear: f32, angular: f32, v: Vector3f) -> Clamped
     }
 }
 
+#[tactic(auto, unfolding(crate::specs::Limits::twist_clamped))]
 pub fn clamp_twist(body_twist: Vector3f) -> Clamped
     ensures { result ≡ twist_clamped body_twist }
 {
     clamp_to(BODY_VEL_CLAMP_LINEAR, BODY_VEL_CLAMP_ANGULAR, body_twist)
 }
 
+#[tactic(auto, unfolding(crate::specs::Limits::accel_clamped))]
 pub fn clamp_accel(body_accel: Vector3f) -> Clamped
     ensures { result ≡ accel_clamped body_accel }
 {

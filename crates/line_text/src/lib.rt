@@ -45,6 +45,7 @@ pub enum Line {
 }
 
 // Puts the line at the start of buf, and answers how long it is. (`Within` is what `&buf[..r]` asks.)
+#[tactic(auto, using(text_pieces::proofs::Placing::whole, text_pieces::proofs::Placing::within, crate::proofs::Bound::tick_fits, crate::proofs::Bound::refused_fits), unfolding(crate::specs::Text::line_text))]
 pub fn write_line(buf: &mut [u8; 128], line: Line) -> usize
     ensures value { result ≡ length (line_text line) }
     ensures buf_after { buf.new ≡ line_text line ++ drop (length (line_text line)) buf.old }
@@ -57,6 +58,7 @@ pub fn write_line(buf: &mut [u8; 128], line: Line) -> usize
 }
 
 // A tick's line, at place 0.
+#[tactic(auto, using(text_pieces::proofs::Placing::then), unfolding(crate::specs::Text::tick_text))]
 fn write_tick(buf: &mut [u8; 128], t: TickLine) -> usize
     ensures puts { Puts buf.old 0 (tick_text t) buf.new result }
     ensures buf_len { length buf.new ≡ 128 }
@@ -69,6 +71,7 @@ fn write_tick(buf: &mut [u8; 128], t: TickLine) -> usize
 }
 
 // A refused block's line, at place 0.
+#[tactic(auto, using(text_pieces::proofs::Placing::then), unfolding(crate::specs::Text::refused_text))]
 fn write_refused(buf: &mut [u8; 128], f: RefusedLine) -> usize
     ensures puts { Puts buf.old 0 (refused_text f) buf.new result }
     ensures buf_len { length buf.new ≡ 128 }
@@ -81,6 +84,7 @@ fn write_refused(buf: &mut [u8; 128], f: RefusedLine) -> usize
 }
 
 // What ends a tick's line: the wheel speeds, or `E` and the refusal.
+#[tactic(auto, using(text_pieces::proofs::Placing::then), unfolding(crate::specs::Text::ending_text, crate::specs::Text::failed_text))]
 fn put_ending(buf: &mut [u8; 128], at: usize, ending: Ending) -> usize
     ensures { Puts buf.old at (ending_text ending) buf.new result }
 {

@@ -19,6 +19,7 @@ pub struct Decision {
 }
 
 // A changed mode drops trajectory and previous command.
+#[tactic(auto, unfolding(crate::specs::Plan::in_mode))]
 fn in_mode(memory: Memory, mode: u32, prev_mode: u32) -> Memory
     ensures { result ≡ in_mode memory mode prev_mode }
 {
@@ -29,6 +30,7 @@ fn in_mode(memory: Memory, mode: u32, prev_mode: u32) -> Memory
 }
 
 // What modes 2 and 3 answer.
+#[tactic(auto, unfolding(crate::specs::Plan::maneuver_answer))]
 fn maneuver_answer(
     memory: Memory,
     vision_active: bool,
@@ -57,6 +59,7 @@ fn maneuver_answer(
 }
 
 // The one decision over mode, halt, recovery and vision.
+#[tactic(auto, unfolding(crate::specs::Plan::maneuver_answer, crate::specs::Plan::decided, crate::specs::Plan::number_decided, crate::specs::Plan::hold))]
 pub fn decide(
     mode: u32,
     halt: bool,

@@ -15,6 +15,7 @@ fn mark(on: bool, yes: u8, no: u8) -> u8
 }
 
 // A space and a byte.
+#[tactic(auto, using(text_pieces::proofs::Placing::then))]
 fn put_field(buf: &mut [u8; 128], at: usize, byte: u8) -> usize
     ensures { Puts buf.old at (field (byte ∷ [])) buf.new result }
 {
@@ -23,6 +24,7 @@ fn put_field(buf: &mut [u8; 128], at: usize, byte: u8) -> usize
 }
 
 // The outcome's letter, and the two marks.
+#[tactic(auto, using(text_pieces::proofs::Placing::then))]
 pub fn put_marks(
     buf: &mut [u8; 128],
     at: usize,

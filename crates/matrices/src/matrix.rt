@@ -8,6 +8,7 @@ use na::{Vector3f, Vector4f};
 use vectors::{dot3, dot4};
 
 impl Matrix3 {
+    #[tactic(auto, unfolding(crate::specs::Matrix::product_of3))]
     pub fn mul(self, v: Vector3f) -> Vector3f
         ensures { result ≡ product_of3 self v }
     {
@@ -20,6 +21,7 @@ impl Matrix3 {
 }
 
 impl Matrix3x4 {
+    #[tactic(auto, unfolding(crate::specs::Matrix::product_of3x4))]
     pub fn mul(self, v: Vector4f) -> Vector3f
         ensures { result ≡ product_of3x4 self v }
     {
@@ -32,6 +34,7 @@ impl Matrix3x4 {
 }
 
 impl Matrix4x3 {
+    #[tactic(auto, unfolding(crate::specs::Matrix::product_of4x3))]
     pub fn mul(self, v: Vector3f) -> Vector4f
         ensures { result ≡ product_of4x3 self v }
     {

@@ -6,6 +6,7 @@ use crate::Matrix3;
 use na::Vector3f;
 
 // v turned from local axes to global ones, by `z_rotation_mat` of the angle with this cosine and sine.
+#[tactic(auto, unfolding(crate::specs::Rotation::to_global, crate::specs::Rotation::rotation))]
 pub fn rotate_to_global(c: f32, s: f32, v: Vector3f) -> Vector3f
     ensures { result ≡ to_global c s v }
 {
@@ -26,6 +27,7 @@ pub fn rotate_to_global(c: f32, s: f32, v: Vector3f) -> Vector3f
 }
 
 // v turned from global axes to local ones: by the opposite angle, whose sine is -s.
+#[tactic(auto, unfolding(crate::specs::Rotation::to_local, crate::specs::Rotation::to_global))]
 pub fn rotate_to_local(c: f32, s: f32, v: Vector3f) -> Vector3f
     ensures { result ≡ to_local c s v }
 {

@@ -50,6 +50,7 @@ impl HeldSample {
 
 impl Memory {
     // Trajectory and previous command dropped: the start, and what hold, a changed mode, C, J and a reset leave.
+    #[tactic(auto, unfolding(crate::specs::Memory::empty_memory))]
     pub fn empty() -> Memory
         ensures { result ≡ empty_memory }
     {
@@ -60,6 +61,7 @@ impl Memory {
     }
 
     // What a planner failure leaves.
+    #[tactic(auto, unfolding(crate::specs::Memory::trajectory_dropped))]
     pub fn drop_trajectory(self) -> Memory
         ensures { result ≡ trajectory_dropped self }
     {
@@ -70,6 +72,7 @@ impl Memory {
         }
     }
 
+    #[tactic(auto, unfolding(crate::specs::Memory::after_tracking))]
     pub fn after_tracking(next: Sample, cmd: ManeuverCommand) -> Memory
         ensures { result ≡ after_tracking next cmd }
     {

@@ -38,6 +38,7 @@ pub struct PidAnswer {
 }
 
 // Below the threshold the output shrinks with the error.
+#[tactic(auto, unfolding(crate::specs::Axis::anti_jitter))]
 fn apply_anti_jitter(thresh: AntiJitterThresh, out: f32, err: f32) -> f32
     ensures { result ≡ anti_jitter thresh out err }
 {
@@ -54,6 +55,7 @@ fn apply_anti_jitter(thresh: AntiJitterThresh, out: f32, err: f32) -> f32
     }
 }
 
+#[tactic(auto, unfolding(crate::specs::Axis::limited))]
 fn apply_output_limits(limits: OutputLimits, out: f32) -> f32
     ensures { result ≡ limited limits out }
 {
@@ -65,6 +67,7 @@ fn apply_output_limits(limits: OutputLimits, out: f32) -> f32
 
 impl PidController {
     // A controller with nothing remembered.
+    #[tactic(auto, unfolding(crate::specs::Axis::new_controller))]
     pub fn new(gain: PidGains, thresh: AntiJitterThresh, limits: OutputLimits) -> PidController
         ensures { result ≡ new_controller gain thresh limits }
     {
@@ -77,6 +80,7 @@ impl PidController {
         }
     }
 
+    #[tactic(auto, unfolding(crate::specs::Axis::calculated, crate::specs::Axis::calculated_with_derivative))]
     pub fn calculate(self, setpoint: f32, process_variable: f32, dt_s: f32) -> PidAnswer
         ensures { result ≡ calculated self setpoint process_variable dt_s }
     {
@@ -85,6 +89,7 @@ impl PidController {
     }
 
     // Like `calculate`, with the derivative from outside.
+    #[tactic(auto, unfolding(crate::specs::Axis::calculated_with_derivative, crate::specs::Axis::response, crate::specs::Axis::integrated, crate::specs::Axis::weighted))]
     pub fn calculate_with_derivative(
         mut self,
         setpoint: f32,
@@ -110,6 +115,7 @@ impl PidController {
         }
     }
 
+    #[tactic(auto, unfolding(crate::specs::Axis::reset_of, crate::specs::Axis::new_controller))]
     pub fn reset(mut self) -> PidController
         ensures { result ≡ reset_of self }
     {

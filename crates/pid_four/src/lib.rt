@@ -20,6 +20,7 @@ pub struct PidAnswer4 {
     pub controller: PidController4,
 }
 
+#[tactic(auto, unfolding(crate::specs::Four::joined4))]
 fn joined4(x: PidAnswer, y: PidAnswer, z: PidAnswer, w: PidAnswer) -> PidAnswer4
     ensures { result ≡ joined4 x y z w }
 {
@@ -44,6 +45,7 @@ fn joined4(x: PidAnswer, y: PidAnswer, z: PidAnswer, w: PidAnswer) -> PidAnswer4
 }
 
 impl PidController4 {
+    #[tactic(auto, unfolding(crate::specs::Four::calculated4))]
     pub fn calculate(self, setpoint: Vector4f, process_variable: Vector4f, dt_s: f32) -> PidAnswer4
         ensures { result ≡ calculated4 self setpoint process_variable dt_s }
     {
@@ -54,6 +56,7 @@ impl PidController4 {
         joined4(x, y, z, w)
     }
 
+    #[tactic(auto, unfolding(crate::specs::Four::calculated_with_derivative4))]
     pub fn calculate_with_derivative(
         self,
         setpoint: Vector4f,
@@ -78,6 +81,7 @@ impl PidController4 {
         joined4(x, y, z, w)
     }
 
+    #[tactic(auto, unfolding(crate::specs::Four::reset4))]
     pub fn reset(mut self) -> PidController4
         ensures { result ≡ reset4 self }
     {

@@ -20,6 +20,7 @@ pub struct PidAnswer3 {
     pub controller: PidController3,
 }
 
+#[tactic(auto, unfolding(crate::specs::Three::joined3))]
 fn joined3(x: PidAnswer, y: PidAnswer, z: PidAnswer) -> PidAnswer3
     ensures { result ≡ joined3 x y z }
 {
@@ -41,6 +42,7 @@ fn joined3(x: PidAnswer, y: PidAnswer, z: PidAnswer) -> PidAnswer3
 }
 
 impl PidController3 {
+    #[tactic(auto, unfolding(crate::specs::Three::calculated3))]
     pub fn calculate(self, setpoint: Vector3f, process_variable: Vector3f, dt_s: f32) -> PidAnswer3
         ensures { result ≡ calculated3 self setpoint process_variable dt_s }
     {
@@ -50,6 +52,7 @@ impl PidController3 {
         joined3(x, y, z)
     }
 
+    #[tactic(auto, unfolding(crate::specs::Three::calculated_with_derivative3))]
     pub fn calculate_with_derivative(
         self,
         setpoint: Vector3f,
@@ -71,6 +74,7 @@ impl PidController3 {
         joined3(x, y, z)
     }
 
+    #[tactic(auto, unfolding(crate::specs::Three::reset3))]
     pub fn reset(mut self) -> PidController3
         ensures { result ≡ reset3 self }
     {

@@ -8,6 +8,7 @@ use matrices::Matrix3x4;
 use na::{Vector3f, Vector4f, Vector6f};
 
 // The velocity that wheels and gyro measure.
+#[tactic(auto, unfolding(crate::specs::Prediction::velocity_of))]
 fn vel_seed(wheel2twist: Matrix3x4, wheels: Vector4f, gyro: f32) -> Vector3f
     ensures { result ≡ velocity_of wheel2twist wheels gyro }
 {
@@ -17,6 +18,7 @@ fn vel_seed(wheel2twist: Matrix3x4, wheels: Vector4f, gyro: f32) -> Vector3f
 }
 
 // Pose and velocity as measured where the outcome overwrites, else the prediction.
+#[tactic(auto, unfolding(crate::specs::Prediction::predicted_after))]
 pub fn predict_after(
     action: GateAction,
     predicted: Vector6f,

@@ -27,6 +27,7 @@ pub struct RecoveryAnswer {
 }
 
 // How far a sample's state and the estimate are apart.
+#[tactic(auto, unfolding(crate::specs::Recovery::tracking_errors))]
 fn tracking_errors(traj_state: Vector6f, estimate: Vector6f) -> TrackingErrors
     ensures { result ≡ tracking_errors traj_state estimate }
 {
@@ -41,6 +42,7 @@ fn tracking_errors(traj_state: Vector6f, estimate: Vector6f) -> TrackingErrors
 }
 
 // No error without a sample.
+#[tactic(auto, unfolding(crate::specs::Recovery::tracking_error_exceeded))]
 fn tracking_error_exceeded(held: HeldState, estimate: Vector6f) -> bool
     ensures { result ≡ tracking_error_exceeded held estimate }
 {
@@ -51,6 +53,7 @@ fn tracking_error_exceeded(held: HeldState, estimate: Vector6f) -> bool
 }
 
 // Judged on the sample that is held by then.
+#[tactic(auto, unfolding(crate::specs::Recovery::recovery))]
 pub fn update_tracking_divergence_recovery(
     state: TrackingDivergenceState,
     held: HeldState,

@@ -16,6 +16,7 @@ pub struct Seeding {
 }
 
 // The deviation of n samples: Variance = E[x²] - (E[x])², which rounding can take below zero.
+#[tactic(auto, unfolding(crate::specs::Seeding::deviation))]
 fn deviation_of(sum: f32, sq_sum: f32, nf: f32) -> f32
     ensures { result ≡ deviation sum sq_sum nf }
 {
@@ -25,6 +26,7 @@ fn deviation_of(sum: f32, sq_sum: f32, nf: f32) -> f32
 
 impl Seeding {
     // A seeding that has seen nothing, the Rust's default.
+    #[tactic(auto, unfolding(crate::specs::Seeding::fresh_seeding, na::specs::Vector::zeros2))]
     pub fn fresh() -> Seeding
         ensures { result ≡ fresh_seeding }
     {
@@ -36,6 +38,7 @@ impl Seeding {
     }
 
     // One sighting more.
+    #[tactic(auto, unfolding(crate::specs::Seeding::gathered))]
     pub fn gather(self, sighting: Vector3f) -> Seeding
         ensures { result ≡ gathered self sighting }
     {
@@ -57,6 +60,7 @@ impl Seeding {
     }
 
     // Whether both deviations are small; a NaN is not.
+    #[tactic(auto, unfolding(crate::specs::Seeding::steady))]
     pub fn is_steady(self) -> bool
         ensures { result ≡ steady self }
     {

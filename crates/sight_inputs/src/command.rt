@@ -9,6 +9,7 @@ use cmd::CommandWords;
 const COMMAND: u8 = 24;
 
 // The words of modes 0 and 1, which use none.
+#[tactic(auto, unfolding(crate::specs::Command::first_words))]
 fn no_words() -> CommandWords
     ensures { result ≡ first_words [] 0 }
 {
@@ -30,6 +31,7 @@ fn no_words() -> CommandWords
 }
 
 // The words of mode 2, a position.
+#[tactic(auto, unfolding(crate::specs::Command::first_words, block_floats::specs::Floats::vector3_at, block_floats::specs::Floats::vector4_at))]
 fn position_words(block: &[u8]) -> CommandWords
     ensures { result ≡ first_words block.now 7 }
 {
@@ -53,6 +55,7 @@ fn position_words(block: &[u8]) -> CommandWords
 }
 
 // The words of mode 3, a line.
+#[tactic(auto, unfolding(crate::specs::Command::first_words, block_floats::specs::Floats::vector3_at, block_floats::specs::Floats::vector4_at))]
 fn line_words(block: &[u8]) -> CommandWords
     ensures { result ≡ first_words block.now 13 }
 {
@@ -78,6 +81,7 @@ fn line_words(block: &[u8]) -> CommandWords
 }
 
 // Words that the mode does not use are not read: they are 0.0.
+#[tactic(auto, unfolding(crate::specs::Command::command_words, crate::specs::Command::first_words))]
 pub(crate) fn command_words(block: &[u8], mode: u32) -> CommandWords
     ensures { result ≡ command_words block.now mode }
 {

@@ -20,6 +20,7 @@ use inputs::{PlanInput, SightInput};
 // The first word of the wheel speeds, which steer takes too.
 pub const WHEELS: u8 = 7;
 
+#[tactic(auto, unfolding(crate::specs::Inputs::sight_input))]
 pub fn sight_input(block: &[u8]) -> SightInput
     ensures { result ≡ sight_input block.now }
 {
@@ -34,6 +35,7 @@ pub fn sight_input(block: &[u8]) -> SightInput
     }
 }
 
+#[tactic(auto, unfolding(crate::specs::Inputs::plan_input))]
 pub fn plan_input(block: &[u8]) -> PlanInput
     ensures { result ≡ plan_input block.now }
 {

@@ -6,6 +6,7 @@ use block_floats::{vec3_at, vec4_at};
 use matrices::Matrix3x4;
 use na::Vector6f;
 
+#[tactic(auto, unfolding(crate::specs::Parts::vector6_at))]
 pub(crate) fn vec6_at(block: &[u8], at: u8) -> Vector6f
     requires { at + 5 < 128 }
     ensures { result ≡ vector6_at block.now at }
@@ -16,6 +17,7 @@ pub(crate) fn vec6_at(block: &[u8], at: u8) -> Vector6f
     }
 }
 
+#[tactic(auto, unfolding(crate::specs::Parts::matrix3x4_at))]
 pub(crate) fn mat3x4_at(block: &[u8], at: u8) -> Matrix3x4
     requires { at + 11 < 128 }
     ensures { result ≡ matrix3x4_at block.now at }

@@ -17,6 +17,7 @@ use block_words::word_at;
 use inputs::{FinishInput, SteerInput};
 use sight_inputs::WHEELS;
 
+#[tactic(auto, unfolding(crate::specs::Inputs::steer_input))]
 pub fn steer_input(block: &[u8]) -> SteerInput
     ensures { result ≡ steer_input block.now }
 {
@@ -32,6 +33,7 @@ pub fn steer_input(block: &[u8]) -> SteerInput
     }
 }
 
+#[tactic(auto, unfolding(crate::specs::Inputs::finish_input))]
 pub fn finish_input(block: &[u8]) -> FinishInput
     ensures { result ≡ finish_input block.now }
 {

@@ -7,6 +7,7 @@ use matrices::{Matrix3, Matrix4x3};
 use memory::Sample;
 use na::Vector6f;
 
+#[tactic(auto, unfolding(crate::specs::Parts::sample_at, sight_inputs::specs::Parts::vector6_at))]
 pub(crate) fn sample_at(block: &[u8], at: u8) -> Sample
     requires { at + 8 < 128 }
     ensures { result ≡ sample_at block.now at }
@@ -20,6 +21,7 @@ pub(crate) fn sample_at(block: &[u8], at: u8) -> Sample
     }
 }
 
+#[tactic(auto, unfolding(crate::specs::Parts::matrix3_at))]
 pub(crate) fn mat3_at(block: &[u8], at: u8) -> Matrix3
     requires { at + 8 < 128 }
     ensures { result ≡ matrix3_at block.now at }
@@ -31,6 +33,7 @@ pub(crate) fn mat3_at(block: &[u8], at: u8) -> Matrix3
     }
 }
 
+#[tactic(auto, unfolding(crate::specs::Parts::matrix4x3_at))]
 pub(crate) fn mat4x3_at(block: &[u8], at: u8) -> Matrix4x3
     requires { at + 11 < 128 }
     ensures { result ≡ matrix4x3_at block.now at }

@@ -8,6 +8,7 @@ use na::Vector3f;
 use params::STOP_STATE_LINEAR_SPEED_LIMIT;
 
 // In the stop state the linear speed is scaled down to its limit; the angular one stays.
+#[tactic(auto, unfolding(crate::specs::Stop::stop_scaled))]
 pub fn stop_scaled(stop: bool, twist: Vector3f) -> Vector3f
     ensures { result ≡ stop_scaled stop twist }
 {

@@ -13,6 +13,7 @@ pub struct Tally {
 }
 
 impl Tally {
+    #[tactic(auto, unfolding(crate::specs::Tally::none_yet))]
     pub fn new() -> Self
         ensures { result ≡ none_yet }
     {
@@ -24,6 +25,7 @@ impl Tally {
     }
 
     // Some records more, with so many mismatches among them.
+    #[tactic(auto, unfolding(crate::specs::Tally::counted))]
     pub fn count(self, records: u64, mismatches: u64) -> Self
         ensures { result ≡ counted self records mismatches }
     {

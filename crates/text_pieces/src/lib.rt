@@ -19,6 +19,7 @@ pub fn put_byte(buf: &mut [u8], at: usize, byte: u8) -> usize
 
 // A number's decimal digits: the first ones by a call of itself, and then the last one. (`io::decimal`
 // fills an array of its own, which would have to be copied.)
+#[tactic(auto, using(crate::proofs::Placing::then, crate::proofs::Digits::one_digit, crate::proofs::Digits::last_digit))]
 pub fn put_decimal(buf: &mut [u8; 128], at: usize, n: u32) -> usize
     ensures { Puts buf.old at (decimal n) buf.new result }
 {
@@ -31,6 +32,7 @@ pub fn put_decimal(buf: &mut [u8; 128], at: usize, n: u32) -> usize
 }
 
 // A space and a number.
+#[tactic(auto, using(crate::proofs::Placing::then))]
 pub fn put_number(buf: &mut [u8; 128], at: usize, n: u32) -> usize
     ensures { Puts buf.old at (field (decimal n)) buf.new result }
 {

@@ -7,6 +7,7 @@ use gate_action::GateAction;
 
 impl Counts {
     // One outcome more. The tick limit keeps every count far from wrapping.
+    #[tactic(auto, unfolding(crate::specs::Counts::counted))]
     pub fn count(mut self, action: GateAction) -> Counts
         ensures { result ≡ counted self action }
     {

@@ -30,6 +30,7 @@ pub enum BlockAnswer {
     Refused(BlockRefusal),
 }
 
+#[tactic(auto, unfolding(crate::specs::Block::tick_block))]
 fn tick_block(block: &[u8], tick: TickLength) -> TickBlock
     ensures { result ≡ tick_block block.now tick }
 {
@@ -44,6 +45,7 @@ fn tick_block(block: &[u8], tick: TickLength) -> TickBlock
 }
 
 // The answer: what the block says where it passes its tests.
+#[tactic(auto, using(crate::proofs::Refusal::numbered), unfolding(crate::specs::Block::block_read))]
 pub fn read(block: &[u8]) -> BlockAnswer
     ensures { (result ≡ block_read block.now) × (answer_number result ≡ block_refusal block.now) × (block.now ≡ block.now) }
 {

@@ -31,6 +31,7 @@ fn ending_of(answer: FinishAnswer) -> Ending
 }
 
 // The line of a tick that ended, with the marks at its end.
+#[tactic(auto, unfolding(crate::specs::Tick::ended_by))]
 fn end_tick(c: BodyController, number: u32, letter: u8, ending: Ending) -> Ticked
     ensures { result ≡ ended_by c number letter ending }
 {
@@ -47,6 +48,7 @@ fn end_tick(c: BodyController, number: u32, letter: u8, ending: Ending) -> Ticke
     }
 }
 
+#[tactic(auto, unfolding(crate::specs::Tick::finished))]
 fn finish_tick(c: BodyController, number: u32, letter: u8, finish: FinishInput) -> Ticked
     ensures { result ≡ finished c number letter finish }
 {
@@ -56,6 +58,7 @@ fn finish_tick(c: BodyController, number: u32, letter: u8, finish: FinishInput) 
     end_tick(result.controller, number, letter, ending)
 }
 
+#[tactic(auto, unfolding(crate::specs::Tick::steered))]
 fn steer_tick(
     c: BodyController,
     number: u32,
@@ -82,6 +85,7 @@ fn steer_tick(
     }
 }
 
+#[tactic(auto, unfolding(crate::specs::Tick::planned))]
 fn plan_tick(
     c: BodyController,
     number: u32,
@@ -110,6 +114,7 @@ fn plan_tick(
 }
 
 // A block that sight refused; the controller stays.
+#[tactic(auto, unfolding(crate::specs::Tick::refused_at))]
 fn refuse_tick(c: BodyController, refusal: u8) -> Ticked
     ensures { result ≡ refused_at c refusal }
 {
@@ -125,6 +130,7 @@ fn refuse_tick(c: BodyController, refusal: u8) -> Ticked
 
 // A tick: the four calls, up to the first that is turned away. Where that is sight, the block is
 // refused and the controller stays.
+#[tactic(auto, unfolding(crate::specs::Tick::ticked))]
 pub fn drive_tick(
     c: BodyController,
     sight: SightInput,

@@ -17,6 +17,7 @@ pub enum TickLengthAnswer {
 }
 
 impl TickLength {
+    #[tactic(auto, unfolding(crate::specs::TickLength::tick_length_of))]
     pub fn new(k: u32) -> TickLengthAnswer
         ensures { (result ≡ tick_length_of k) × (refusal_number result ≡ refusal_of k) }
     {
@@ -27,6 +28,7 @@ impl TickLength {
     }
 
     // dt in seconds, exact.
+    #[tactic(auto, unfolding(crate::specs::TickLength::seconds_of))]
     pub fn seconds(self) -> f32
         ensures { result ≡ seconds_of self.k }
     {
@@ -34,6 +36,7 @@ impl TickLength {
     }
 
     // dt in whole microseconds, rounded down, for the encoder lag.
+    #[tactic(auto, unfolding(crate::specs::TickLength::micros_of))]
     pub fn micros(self) -> u32
         ensures { result ≡ micros_of self.k }
     {

@@ -38,6 +38,7 @@ struct AxisAnswer {
 
 // One axis of `pose_pid_controller`, with no output limits. Where the derivative is given, pid.rs
 // does not read the previous error.
+#[tactic(auto, unfolding(crate::specs::Setpoints::axis_answered, crate::specs::Setpoints::pose_axis))]
 fn pose_axis(
     gain: PidGains,
     thresh: f32,
@@ -67,6 +68,7 @@ fn pose_axis(
 
 // `pose_pid_controller` of a context: x and y alike, and the heading. s is the setpoint, v the
 // process variable, d the derivative.
+#[tactic(auto, unfolding(crate::specs::Setpoints::pose_answered, crate::specs::Setpoints::axis_answered, crate::specs::Setpoints::pose_axis, pid::specs::Axis::calculated_with_derivative, pid::specs::Axis::response, pid::specs::Axis::integrated))]
 fn pose_pid(pid: PidMemory, s: Vector3f, v: Vector3f, d: Vector3f, dt_s: f32) -> PoseAnswer
     ensures { result ≡ pose_answered pid s v d dt_s }
 {
@@ -97,6 +99,7 @@ fn pose_pid(pid: PidMemory, s: Vector3f, v: Vector3f, d: Vector3f, dt_s: f32) ->
 }
 
 // pos with its heading wrapped to within half a turn of pose's: the PID must not turn the long way.
+#[tactic(auto, unfolding(crate::specs::Setpoints::wrapped))]
 fn wrapped(pos: Vector3f, pose: Vector3f) -> Vector3f
     ensures { result ≡ wrapped pos pose }
 {
@@ -110,6 +113,7 @@ fn wrapped(pos: Vector3f, pose: Vector3f) -> Vector3f
 }
 
 // Feedforward alone: the feedback's term is zeros, and adding them turns -0.0 into 0.0.
+#[tactic(auto, unfolding(crate::specs::Setpoints::twist_setpoint, na::specs::Vector::zeros3))]
 fn twist_setpoint(traj_vel: Vector3f) -> Vector3f
     ensures { result ≡ twist_setpoint traj_vel }
 {
@@ -117,6 +121,7 @@ fn twist_setpoint(traj_vel: Vector3f) -> Vector3f
 }
 
 // Feedback alone: the feedforward's term is zeros.
+#[tactic(auto, unfolding(crate::specs::Setpoints::accel_setpoint, na::specs::Vector::zeros3))]
 fn accel_setpoint(feedback: Vector3f) -> Vector3f
     ensures { result ≡ accel_setpoint feedback }
 {
@@ -124,6 +129,7 @@ fn accel_setpoint(feedback: Vector3f) -> Vector3f
 }
 
 // traj_state and traj_accel are a sample's; the modes chosen don't use the acceleration.
+#[tactic(auto, unfolding(crate::specs::Setpoints::tracking_setpoints))]
 pub fn calc_tracking_setpoints(
     pid: PidMemory,
     state_estimate: Vector6f,

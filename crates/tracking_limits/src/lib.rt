@@ -8,6 +8,7 @@ use na::Vector4f;
 use params::{TRACKING_DIVERGENCE_RECOVERY_REST_WHEEL_VEL, TrackingErrors};
 
 // NaN exceeds nothing.
+#[tactic(auto, unfolding(crate::specs::Limits::any_exceeds))]
 pub fn any_exceeds(error: TrackingErrors, limit: TrackingErrors) -> bool
     ensures { result ≡ any_exceeds error limit }
 {
@@ -19,6 +20,7 @@ pub fn any_exceeds(error: TrackingErrors, limit: TrackingErrors) -> bool
 
 // Every wheel is at rest; a NaN is not. One such tick is enough, as
 // TRACKING_DIVERGENCE_RECOVERY_REST_TICKS is 1.
+#[tactic(auto, unfolding(crate::specs::Limits::at_rest))]
 pub fn at_rest(wheels: Vector4f) -> bool
     ensures { result ≡ at_rest wheels }
 {

@@ -7,6 +7,7 @@ use tally::Tally;
 
 // Puts a list's line behind its name at the start of out, and answers how long it is: how many
 // records and mismatches, and whether its last record is cut short.
+#[tactic(auto, using(io::proofs::Counting::prefix_len_of_le, crate::proofs::Line::line_of))]
 pub fn line(tally: Tally, out: &mut [u8; 80]) -> usize
     ensures prefix_len { IsPrefixLen result out.new }
     ensures line { IsLine tally (take result out.new) }
@@ -36,6 +37,7 @@ fn put(out: &mut [u8], at: usize, text: &[u8]) -> usize
 }
 
 // A number in decimal.
+#[tactic(auto, using(crate::proofs::Digits::at_most_20))]
 fn put_decimal(out: &mut [u8; 80], at: usize, n: u64) -> usize
     requires { at ≤ 60 }
     ensures puts_decimal { PutsDecimal out.old at n out.new result }

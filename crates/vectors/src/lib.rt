@@ -5,6 +5,7 @@ ghost use Rattle.na.specs.Vector.{entries3, entries4, sum_of, difference_of, sca
 
 use na::{Vector3f, Vector4f};
 
+#[tactic(auto, unfolding(na::specs::Vector::sum_of))]
 pub fn add(v: Vector3f, o: Vector3f) -> Vector3f
     ensures { result ≡ sum_of v o }
 {
@@ -15,6 +16,7 @@ pub fn add(v: Vector3f, o: Vector3f) -> Vector3f
     }
 }
 
+#[tactic(auto, unfolding(na::specs::Vector::difference_of))]
 pub fn sub(v: Vector3f, o: Vector3f) -> Vector3f
     ensures { result ≡ difference_of v o }
 {
@@ -26,6 +28,7 @@ pub fn sub(v: Vector3f, o: Vector3f) -> Vector3f
 }
 
 // Each entry times k.
+#[tactic(auto, unfolding(na::specs::Vector::scaled))]
 pub fn scale(v: Vector3f, k: f32) -> Vector3f
     ensures { result ≡ scaled v k }
 {
@@ -37,6 +40,7 @@ pub fn scale(v: Vector3f, k: f32) -> Vector3f
 }
 
 // The products of the entries, summed from the left.
+#[tactic(auto, unfolding(na::specs::Vector::dot_of, na::specs::Vector::add_products))]
 pub fn dot3(v: Vector3f, o: Vector3f) -> f32
     ensures { result ≡ dot_of (entries3 v) (entries3 o) }
 {
@@ -44,6 +48,7 @@ pub fn dot3(v: Vector3f, o: Vector3f) -> f32
 }
 
 // The same of four.
+#[tactic(auto, unfolding(na::specs::Vector::dot_of, na::specs::Vector::add_products))]
 pub fn dot4(v: Vector4f, o: Vector4f) -> f32
     ensures { result ≡ dot_of (entries4 v) (entries4 o) }
 {

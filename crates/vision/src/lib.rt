@@ -24,6 +24,7 @@ pub struct VisionAnswer {
 }
 
 // The vision clock after a tick; beyond the timeout it stands still.
+#[tactic(auto, unfolding(crate::specs::Vision::clock_after))]
 fn clock_after(clock: f32, taken: bool, dt: f32) -> f32
     ensures { result ≡ clock_after clock taken dt }
 {
@@ -38,6 +39,7 @@ fn clock_after(clock: f32, taken: bool, dt: f32) -> f32
 
 impl Vision {
     // New, and what a reset leaves.
+    #[tactic(auto, unfolding(crate::specs::Vision::new_vision))]
     pub fn new() -> Vision
         ensures { result ≡ new_vision }
     {
@@ -47,6 +49,7 @@ impl Vision {
         }
     }
 
+    #[tactic(auto, unfolding(crate::specs::Vision::active))]
     pub fn vision_active(self) -> bool
         ensures { result ≡ active self.time_since_vision_update_s }
     {
@@ -54,6 +57,7 @@ impl Vision {
     }
 
     // One tick: the gate judges, and the clock moves.
+    #[tactic(auto, unfolding(crate::specs::Vision::vision_after))]
     pub fn update(
         self,
         seen: bool,

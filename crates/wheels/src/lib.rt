@@ -19,6 +19,7 @@ pub struct FinishOutputs {
 }
 
 // The acceleration less what the friction force, given in local axes, will take.
+#[tactic(auto, unfolding(crate::specs::Outputs::friction_compensated))]
 fn friction_compensated(
     c: f32,
     s: f32,
@@ -33,6 +34,7 @@ fn friction_compensated(
 }
 
 // c and s are the cosine and sine of the estimate's heading.
+#[tactic(auto, unfolding(crate::specs::Outputs::finish_outputs))]
 pub fn finish_outputs(
     c: f32,
     s: f32,

@@ -22,6 +22,7 @@ fn put_digit(buf: &mut [u8; 128], at: usize, w: u32) -> usize
 }
 
 // A word's last four hexadecimal digits.
+#[tactic(auto, using(text_pieces::proofs::Placing::then))]
 fn put_half(buf: &mut [u8; 128], at: usize, w: u32) -> usize
     ensures { Puts buf.old at (hex_digits 4 w) buf.new result }
 {
@@ -36,6 +37,7 @@ fn put_half(buf: &mut [u8; 128], at: usize, w: u32) -> usize
 
 // A word's eight hexadecimal digits. (`io::hex` fills an array of its own, which would have to be
 // copied.)
+#[tactic(auto, using(text_pieces::proofs::Placing::then))]
 fn put_hex(buf: &mut [u8; 128], at: usize, w: u32) -> usize
     ensures { Puts buf.old at (hex_digits 8 w) buf.new result }
 {
@@ -44,6 +46,7 @@ fn put_hex(buf: &mut [u8; 128], at: usize, w: u32) -> usize
 }
 
 // A space and the eight digits of a float's bits.
+#[tactic(auto, using(text_pieces::proofs::Placing::then), unfolding(crate::specs::Wheels::hex))]
 fn put_wheel(buf: &mut [u8; 128], at: usize, x: f32) -> usize
     ensures { Puts buf.old at (field (hex x)) buf.new result }
 {
@@ -52,6 +55,7 @@ fn put_wheel(buf: &mut [u8; 128], at: usize, x: f32) -> usize
 }
 
 // Four wheel speeds.
+#[tactic(auto, using(text_pieces::proofs::Placing::then), unfolding(crate::specs::Wheels::wheels_text))]
 pub fn put_wheels(buf: &mut [u8; 128], at: usize, v: Vector4f) -> usize
     ensures { Puts buf.old at (wheels_text v) buf.new result }
 {
