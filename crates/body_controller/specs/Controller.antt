@@ -1,6 +1,7 @@
 -- A new controller, and the reset call: document 01, 'The plain drive' and 'The tick's four calls'. Assumes nothing.
-use Rattle.std.specs.Prelude.{ℕ, false, from_bits}
+use Rattle.std.specs.Prelude.{ℕ, false}
 use Rattle.std.specs.Float.{binary32}
+use Rattle.std.specs.Float.Ieee.{of_bits}
 use Rattle.na.specs.Vector.{zeros3, zeros6}
 use Rattle.tick_length.specs.declared.TickLengthAnswer.{TickLengthAnswer}
 use Rattle.tick_length.specs.declared.TickLengthAnswer.TheVariants as Length
@@ -27,7 +28,7 @@ abbrev pub no_plan : Planned
 no_plan = record { answer = Hold; cmd = Off }
 
 abbrev pub no_steer : Steered
-no_steer = record { body_twist = zeros3; body_accel = zeros3; vel_clamped = false; cos = from_bits binary32 0; sin = from_bits binary32 0 }
+no_steer = record { body_twist = zeros3; body_accel = zeros3; vel_clamped = false; cos = of_bits binary32 0; sin = of_bits binary32 0 }
 
 -- 'as the Rust's new controller does, at sight's turn, all counts 0'
 unfoldable pub started : Choices → BodyController

@@ -1,6 +1,7 @@
 -- Document 01, 'Cases': the starred ones, shown of the rules themselves, in its order. `proofs/Starred.antt` proves them. Assumes nothing.
-use Rattle.std.specs.Prelude.{◌≡◌, ℕ, Bool, true, false, from_bits, to_bits, Float}
+use Rattle.std.specs.Prelude.{◌≡◌, ℕ, Bool, true, false, Float}
 use Rattle.std.specs.Float.{nan, binary32}
+use Rattle.std.specs.Float.Ieee.{of_bits, to_bits}
 use Rattle.float_root.specs.Root.{square_root}
 use Rattle.float_remainder.specs.Remainder.{remainder_by, tau}
 use Rattle.float_hypot.specs.Hypot.{hypotenuse}
@@ -18,7 +19,7 @@ use Rattle.body_controller.specs.Controller.{new_of, new_number}
 
 -- the float with these bits
 abbrev pub float : ℕ → Float
-float w = from_bits binary32 w
+float w = of_bits binary32 w
 
 -- whether the cameras are active m ticks of k/4096 s after a taken sighting
 abbrev pub active_at : ℕ → ℕ → Bool

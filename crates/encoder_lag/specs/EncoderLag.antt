@@ -1,8 +1,8 @@
 -- The encoder lag of document 01, 'The plain drive', last paragraph: the `FirstOrderLag` that control_context.rs makes for a tick length.
 -- Assumes nothing.
-use Rattle.std.specs.Prelude.{ℕ, max, true, false, cond, T, pos, from_bits, Float}
+use Rattle.std.specs.Prelude.{ℕ, max, true, false, cond, T, pos, Float}
 use Rattle.std.specs.Float.{fin, binary32}
-use Rattle.std.specs.Float.Ieee.{of_int, to_unsigned, add, mul, div, lt}
+use Rattle.std.specs.Float.Ieee.{of_int, to_unsigned, add, mul, div, lt, of_bits}
 use Rattle.na.specs.Vector.{zeros2}
 use Rattle.params.specs.Params.{enc_lag_k, enc_lag_t_slope, enc_lag_t_horizon, t_min_default}
 use Rattle.tick_length.specs.TickLength.{is_tick_length, micros_of}
@@ -12,11 +12,11 @@ use Rattle.encoder_lag.specs.declared.FirstOrderLagAnswer.TheVariants.{Made, Ref
 
 -- whole microseconds in seconds: the nearest float, times 1e-6
 unfoldable pub duration_to_secs : ℕ → Float
-duration_to_secs micros = mul binary32 (of_int binary32 (pos micros)) (from_bits binary32 0x3586_37bd)
+duration_to_secs micros = mul binary32 (of_int binary32 (pos micros)) (of_bits binary32 0x3586_37bd)
 
 -- the horizon over dt, plus 0.5
 unfoldable pub horizon_over : Float → Float
-horizon_over dt = add binary32 (div binary32 (duration_to_secs enc_lag_t_horizon) dt) (from_bits binary32 0x3f00_0000)
+horizon_over dt = add binary32 (div binary32 (duration_to_secs enc_lag_t_horizon) dt) (of_bits binary32 0x3f00_0000)
 
 -- -1 < x < 2^64: without its fraction x is a 64-bit number
 abbrev pub Castable : Float → Type 0

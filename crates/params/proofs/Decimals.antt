@@ -1,5 +1,5 @@
 -- Each constant's bits are those of the decimal that the Rust writes, and where it writes a term, what binary32 makes of the term in its order. Assumes nothing.
-use Rattle.core.specs.Prelude.{◌≡◌, ℕ, ◌^◌, false, [], ◌∷◌, pos}
+use Rattle.std.specs.Prelude.{◌≡◌, ℕ, ◌^◌, false, [], ◌∷◌, pos}
 use mathlib.Core.Path.{refl}
 use lib.Ieee.{Float, binary32, size, round, add, mul, div, neg, of_int, of_bits}
 use Rattle.params.specs.Params.{tracking_values, limit_values, body_vel_clamp_angular, brake_max_current_a, vision_gate_base_radius_m, vision_active_timeout_s, vision_clock_start_s}

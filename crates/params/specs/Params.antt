@@ -1,7 +1,7 @@
 -- The constants of controller_params.rs by their bits, each under its Rust name. Assumes nothing.
-use Rattle.core.specs.Prelude.{ℕ, List, [], ◌∷◌, from_bits}
-use Rattle.std.specs.Prelude.{Float}
+use Rattle.std.specs.Prelude.{ℕ, List, [], ◌∷◌, Float}
 use Rattle.std.specs.Float.{binary32}
+use Rattle.std.specs.Float.Ieee.{of_bits}
 use Rattle.na.specs.declared.Vector3f.{Vector3f}
 use Rattle.params.specs.declared.PidGains.{PidGains}
 use Rattle.params.specs.declared.TrackingErrors.{TrackingErrors}
@@ -9,67 +9,67 @@ use Rattle.params.specs.declared.FrictionGates.{FrictionGates}
 
 -- 300.0, 0.0, 7.0, 0.0, 0.0
 abbrev pub linear_pose_pid_gains : PidGains
-linear_pose_pid_gains = record { kp = from_bits binary32 0x4396_0000; ki = from_bits binary32 0x0000_0000; kd = from_bits binary32 0x40e0_0000; ki_err_min = from_bits binary32 0x0000_0000; ki_err_max = from_bits binary32 0x0000_0000 }
+linear_pose_pid_gains = record { kp = of_bits binary32 0x4396_0000; ki = of_bits binary32 0x0000_0000; kd = of_bits binary32 0x40e0_0000; ki_err_min = of_bits binary32 0x0000_0000; ki_err_max = of_bits binary32 0x0000_0000 }
 
 -- 400.0, 0.0, 30.0, 0.0, 0.0
 abbrev pub angular_pose_pid_gains : PidGains
-angular_pose_pid_gains = record { kp = from_bits binary32 0x43c8_0000; ki = from_bits binary32 0x0000_0000; kd = from_bits binary32 0x41f0_0000; ki_err_min = from_bits binary32 0x0000_0000; ki_err_max = from_bits binary32 0x0000_0000 }
+angular_pose_pid_gains = record { kp = of_bits binary32 0x43c8_0000; ki = of_bits binary32 0x0000_0000; kd = of_bits binary32 0x41f0_0000; ki_err_min = of_bits binary32 0x0000_0000; ki_err_max = of_bits binary32 0x0000_0000 }
 
 -- 0.001, 0.001, 0.01
 abbrev pub pose_pid_anti_jitter_thresh : Vector3f
-pose_pid_anti_jitter_thresh = record { x = from_bits binary32 0x3a83_126f; y = from_bits binary32 0x3a83_126f; z = from_bits binary32 0x3c23_d70a }
+pose_pid_anti_jitter_thresh = record { x = of_bits binary32 0x3a83_126f; y = of_bits binary32 0x3a83_126f; z = of_bits binary32 0x3c23_d70a }
 
 -- 1.0
 abbrev pub pose_accel_feedback_gain : Float
-pose_accel_feedback_gain = from_bits binary32 0x3f80_0000
+pose_accel_feedback_gain = of_bits binary32 0x3f80_0000
 
 -- 1.0
 abbrev pub pose_vel_feedforward_gain : Float
-pose_vel_feedforward_gain = from_bits binary32 0x3f80_0000
+pose_vel_feedforward_gain = of_bits binary32 0x3f80_0000
 
 -- 1.0, 1.57, 5.0, 10.0
 abbrev pub tracking_error_threshold : TrackingErrors
-tracking_error_threshold = record { pos_linear = from_bits binary32 0x3f80_0000; pos_angular = from_bits binary32 0x3fc8_f5c3; vel_linear = from_bits binary32 0x40a0_0000; vel_angular = from_bits binary32 0x4120_0000 }
+tracking_error_threshold = record { pos_linear = of_bits binary32 0x3f80_0000; pos_angular = of_bits binary32 0x3fc8_f5c3; vel_linear = of_bits binary32 0x40a0_0000; vel_angular = of_bits binary32 0x4120_0000 }
 
 -- 0.1, 0.5, 0.5, 1.0
 abbrev pub friction_comp_gating : FrictionGates
-friction_comp_gating = record { linear_vel = from_bits binary32 0x3dcc_cccd; linear_accel = from_bits binary32 0x3f00_0000; angular_vel = from_bits binary32 0x3f00_0000; angular_accel = from_bits binary32 0x3f80_0000 }
+friction_comp_gating = record { linear_vel = of_bits binary32 0x3dcc_cccd; linear_accel = of_bits binary32 0x3f00_0000; angular_vel = of_bits binary32 0x3f00_0000; angular_accel = of_bits binary32 0x3f80_0000 }
 
 -- 20.0
 abbrev pub body_accel_clamp_linear : Float
-body_accel_clamp_linear = from_bits binary32 0x41a0_0000
+body_accel_clamp_linear = of_bits binary32 0x41a0_0000
 
 -- 100.0
 abbrev pub body_accel_clamp_angular : Float
-body_accel_clamp_angular = from_bits binary32 0x42c8_0000
+body_accel_clamp_angular = of_bits binary32 0x42c8_0000
 
 -- 10.0
 abbrev pub body_vel_clamp_linear : Float
-body_vel_clamp_linear = from_bits binary32 0x4120_0000
+body_vel_clamp_linear = of_bits binary32 0x4120_0000
 
 -- 5.0 * TAU
 abbrev pub body_vel_clamp_angular : Float
-body_vel_clamp_angular = from_bits binary32 0x41fb_53d2
+body_vel_clamp_angular = of_bits binary32 0x41fb_53d2
 
 -- 1.25
 abbrev pub stop_state_linear_speed_limit : Float
-stop_state_linear_speed_limit = from_bits binary32 0x3fa0_0000
+stop_state_linear_speed_limit = of_bits binary32 0x3fa0_0000
 
 -- 0.01
 abbrev pub brake_kp : Float
-brake_kp = from_bits binary32 0x3c23_d70a
+brake_kp = of_bits binary32 0x3c23_d70a
 
 -- 5.0
 abbrev pub brake_anti_jitter_rads : Float
-brake_anti_jitter_rads = from_bits binary32 0x40a0_0000
+brake_anti_jitter_rads = of_bits binary32 0x40a0_0000
 
 -- 1.0
 abbrev pub brake_max_current_a : Float
-brake_max_current_a = from_bits binary32 0x3f80_0000
+brake_max_current_a = of_bits binary32 0x3f80_0000
 
 -- 50.0
 abbrev pub tracking_divergence_recovery_rest_wheel_vel : Float
-tracking_divergence_recovery_rest_wheel_vel = from_bits binary32 0x4248_0000
+tracking_divergence_recovery_rest_wheel_vel = of_bits binary32 0x4248_0000
 
 -- ticks
 abbrev pub tracking_divergence_recovery_rest_ticks : ℕ
@@ -81,23 +81,23 @@ vision_seed_samples = 20
 
 -- 0.03
 abbrev pub vision_seed_pos_std_thresh_m : Float
-vision_seed_pos_std_thresh_m = from_bits binary32 0x3cf5_c28f
+vision_seed_pos_std_thresh_m = of_bits binary32 0x3cf5_c28f
 
 -- 3.0 * (3 as f32 * (1.0 / 60.0) + 0.150) + 0.005, document 01's base
 abbrev pub vision_gate_base_radius_m : Float
-vision_gate_base_radius_m = from_bits binary32 0x3f1a_e148
+vision_gate_base_radius_m = of_bits binary32 0x3f1a_e148
 
 -- 2.0
 abbrev pub vision_gate_expand_rate_m_per_s : Float
-vision_gate_expand_rate_m_per_s = from_bits binary32 0x4000_0000
+vision_gate_expand_rate_m_per_s = of_bits binary32 0x4000_0000
 
 -- 0.95
 abbrev pub enc_lag_k : Float
-enc_lag_k = from_bits binary32 0x3f73_3333
+enc_lag_k = of_bits binary32 0x3f73_3333
 
 -- 0.095
 abbrev pub enc_lag_t_slope : Float
-enc_lag_t_slope = from_bits binary32 0x3dc2_8f5c
+enc_lag_t_slope = of_bits binary32 0x3dc2_8f5c
 
 -- 10 ms in microseconds
 abbrev pub enc_lag_t_horizon : ℕ
@@ -109,11 +109,11 @@ t_min_default = 1000
 
 -- 0.5
 abbrev pub vision_active_timeout_s : Float
-vision_active_timeout_s = from_bits binary32 0x3f00_0000
+vision_active_timeout_s = of_bits binary32 0x3f00_0000
 
 -- 0.5 + 1.0, the vision clock when new or reset
 abbrev pub vision_clock_start_s : Float
-vision_clock_start_s = from_bits binary32 0x3fc0_0000
+vision_clock_start_s = of_bits binary32 0x3fc0_0000
 
 -- ---- every constant, in the order of src/lib.rt
 
