@@ -2,6 +2,7 @@
 // steer on it is `context_sight`'s, `context_plan`'s and `context_steer`'s. Whose turn it is, and what is
 // refused, is `body_controller`'s.
 #![tactic(auto)]
+
 pub mod context; // context.rt: a new context, a reset, a planner failure
 
 use cmd::ManeuverCommand;

@@ -1,5 +1,6 @@
 // Plan's work on a context: the estimate is set, and what is to be tracked is decided.
 #![tactic(auto)]
+
 ghost use Rattle.std.specs.Prelude.{◌≡◌};
 ghost use Rattle.context_plan.specs.Plan.{decided_on};
 

@@ -4,7 +4,6 @@ use Rattle.na.specs.declared.Vector3f.{Vector3f}
 use Rattle.na.specs.declared.Vector6f.{Vector6f}
 use Rattle.gate_action.specs.declared.GateAction.{GateAction}
 use Rattle.vision.specs.declared.Vision.{Vision}
-use Rattle.vision.specs.declared.VisionAnswer.{VisionAnswer}
 use Rattle.gate_action.specs.Outcome.{overwrites}
 use Rattle.vision.specs.Vision.{vision_after}
 use Rattle.memory.specs.Memory.{empty_memory}

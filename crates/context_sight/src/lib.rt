@@ -1,5 +1,6 @@
 // Sight's work on a context: the gate judges, and the wheels are enabled.
 #![tactic(auto)]
+
 ghost use Rattle.std.specs.Prelude.{◌≡◌};
 ghost use Rattle.context_sight.specs.Sight.{seen};
 

@@ -1,5 +1,6 @@
 // Steer's work on a context: setpoints that track what plan decided, then recovery.
 #![tactic(auto)]
+
 ghost use Rattle.std.specs.Prelude.{◌≡◌};
 ghost use Rattle.context_steer.specs.Steer.{tracked_sample, recovery_by, recovered, steered};
 

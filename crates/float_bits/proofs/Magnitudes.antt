@@ -2,13 +2,15 @@
 use mathlib.Core.Path.{◌≡◌, refl}
 use Prim.Native.Nat.{ℕ, zero, suc, ◌+◌, ◌%◌}
 use native.Mathlib.Omega.{arith}
-use mathlib.Core.Bool.{true, false}
+use mathlib.Core.Bool.{true, false, not}
 use lib.Dec.{T}
 use lib.IntN.{ℤ}
-use lib.Ieee.{Float, nan, inf, fin, Format, binary32, fits, is_nan, neg, of_bits, to_bits}
+use lib.Ieee.{Float, nan, inf, fin, Format, binary32, fits, is_nan, ne, neg, nan_bits, of_bits, to_bits}
 use lib.Ieee.Bits.{of_bits-to_bits, to_bits-lt}
+use lib.Ieee.Compare.{differs_from_itself}
 use lib.Ieee.Fits.{neg-fits}
 use Rattle.float_bits.specs.Magnitude.{magnitude}
+use Rattle.float_bits.proofs.Words.{equal_number, number_word}
 
 -- a magnitude is its own magnitude
 pub magnitude-magnitude : (x : Float) → magnitude (magnitude x) ≡ magnitude x
@@ -56,3 +58,12 @@ magnitude_word (fin false m e) h = omega (arith, negative_word m e, to_bits-lt b
 -- the float's word without the sign's bit is read as its magnitude
 pub magnitude_read : (x : Float) → T (fits binary32 x) → of_bits binary32 (to_bits binary32 x % 0x8000_0000) ≡ magnitude x
 magnitude_read x h = rw (magnitude_word x h) (of_bits-to_bits binary32 (magnitude x) (magnitude-fits binary32 x h))
+
+-- what differs from itself is its own magnitude
+pub nan_magnitude : (x : Float) → ne x x ≡ true → magnitude x ≡ x
+unfolding magnitude
+nan_magnitude x e = rw (differs_from_itself x (rw e tt))
+
+-- the float's word without the sign's bit is no NaN's, where the float equals itself
+pub magnitude_number : (x : Float) → T (fits binary32 x) → ne x x ≡ false → T (not (nan_bits binary32 (to_bits binary32 x % 0x8000_0000)))
+magnitude_number x h e = number_word _ _ (magnitude_read x h) (rw magnitude-nan (equal_number x e))

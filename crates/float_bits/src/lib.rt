@@ -1,13 +1,14 @@
 // A word's float and a float's word, and a float without its sign, each with an answer for every word
 // and every float: document 01, 'Stand-ins', from IEEE 754.
 #![tactic(auto)]
+
 ghost use Rattle.std.specs.Prelude.{◌≡◌};
 ghost use Rattle.std.specs.Float.{binary32};
 ghost use Rattle.std.specs.Float.Ieee.{of_bits, to_bits};
 ghost use Rattle.float_bits.specs.Magnitude.{magnitude};
 
 // The float that a word stands for; any NaN's pattern is read as NaN.
-#[tactic(auto, using(crate::proofs::Words::nan_word_read))]
+#[tactic(auto, using(std::proofs::lemmas::Float::not_nan_f32_bits, crate::proofs::Words::nan_made))]
 pub fn from_bits(w: u32) -> f32
     ensures { result ≡ of_bits binary32 w }
 {
@@ -19,7 +20,7 @@ pub fn from_bits(w: u32) -> f32
 }
 
 // A float's word; NaN is written 7fc00000.
-#[tactic(auto, using(crate::proofs::Words::equal_number))]
+#[tactic(auto, using(crate::proofs::Words::equal_number, crate::proofs::Words::nan_written))]
 pub fn to_bits(x: f32) -> u32
     ensures { result ≡ to_bits binary32 x }
 {
@@ -27,7 +28,7 @@ pub fn to_bits(x: f32) -> u32
 }
 
 // fabsf: x without its sign.
-#[tactic(auto, using(crate::proofs::Words::equal_number, crate::proofs::Words::number_word, crate::proofs::Magnitudes::magnitude_read), unfolding(crate::specs::Magnitude::magnitude))]
+#[tactic(auto, using(crate::proofs::Words::equal_number, crate::proofs::Magnitudes::nan_magnitude, crate::proofs::Magnitudes::magnitude_number, crate::proofs::Magnitudes::magnitude_read))]
 pub fn abs(x: f32) -> f32
     ensures { result ≡ magnitude x }
 {

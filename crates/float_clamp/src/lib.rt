@@ -1,5 +1,6 @@
 // The two clamps of document 01, 'Stand-ins', which differ at NaN.
 #![tactic(auto)]
+
 ghost use Rattle.std.specs.Prelude.{◌≡◌};
 ghost use Rattle.float_clamp.specs.Clamp.{clamp_between, clamp_within};
 

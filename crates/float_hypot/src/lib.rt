@@ -1,5 +1,6 @@
 // Document 01's stand-in for hypotf.
 #![tactic(auto)]
+
 ghost use Rattle.std.specs.Prelude.{◌≡◌};
 ghost use Rattle.float_hypot.specs.Hypot.{larger, smaller, scaled_root, outweighs, hypot_of, hypotenuse};
 
@@ -66,7 +67,7 @@ fn smaller(p: f32, q: f32) -> f32
 }
 
 // hypotf. The usual case, two finite numbers, comes first.
-#[tactic(auto, unfolding(crate::specs::Hypot::hypotenuse, float_bits::specs::Magnitude::magnitude))]
+#[tactic(auto, using(crate::proofs::Tested::finite_sides, crate::proofs::Tested::infinite_side, crate::proofs::Tested::nan_side))]
 pub fn hypot(x: f32, y: f32) -> f32
     ensures { result ≡ hypotenuse x y }
 {

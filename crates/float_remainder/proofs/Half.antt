@@ -65,6 +65,8 @@ beyond_is true n d p g = refl
 -- r is k / c in size, and h is half of b / c
 beyond_says : (s : Bool) (n : ℕ) (d : ℤ) (r : Float) (k b c : ℕ) → 0 < c → HasValue r s k c → HasValue (fin false n d) false b (c * 2)
     → (beyond s (fin false n d) r ≡ true → b < k * 2) × (beyond s (fin false n d) r ≡ false → k * 2 ≤ b)
+beyond_says s n d nan k b c C P Q = elim P [ ]
+beyond_says s n d (inf _) k b c C P Q = elim P [ ]
 beyond_says s n d (fin u p g) k b c C P Q =
     let A = over p g d in
     let B = over n d g in
@@ -81,6 +83,10 @@ own_side : (s u : Bool) (n : ℕ) (d : ℤ) (r : Float) (k c : ℕ) → HasValue
 unfolding lt neg
 own_side true true n d r k c P t = refl
 own_side false false n d r k c P t = refl
+own_side true false n d nan k c P t = elim P [ ]
+own_side true false n d (inf _) k c P t = elim P [ ]
+own_side false true n d nan k c P t = elim P [ ]
+own_side false true n d (inf _) k c P t = elim P [ ]
 own_side true false n d (fin v p g) k c P t = absurd (true≢false (sym t ∙ rw P.0))
 own_side false true n d (fin v p g) k c P t = absurd (true≢false (sym t ∙ rw P.0))
 
@@ -96,6 +102,10 @@ not_same false = refl
 -- r and y have unlike signs, and y is the larger in size
 add_opposite : (f : Format) (s : Bool) (r y : Float) (k b c : ℕ) → 0 < c → HasValue r s k c → HasValue y (not s) b c → k < b → add f r y ≡ round f (not s) (b - k) c
 unfolding add sum
+add_opposite f s nan y k b c C P Q h = elim P [ ]
+add_opposite f s (inf _) y k b c C P Q h = elim P [ ]
+add_opposite f s (fin u p g) nan k b c C P Q h = elim Q [ ]
+add_opposite f s (fin u p g) (inf _) k b c C P Q h = elim Q [ ]
 add_opposite f s (fin u p g) (fin v n d) k b c C P Q h =
     let A = over p g d in
     let B = over n d g in

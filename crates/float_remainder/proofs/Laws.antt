@@ -7,7 +7,7 @@ use native.Mathlib.Nat.{mul_assoc, mul_comm}
 use mathlib.Core.Bool.{Bool, true, false, not}
 use lib.IntN.{ℤ}
 use lib.Dec.{T, leb, leb→le, nleb→lt}
-use lib.Ieee.{Float, fin, Format, up, down, round, rem, fits}
+use lib.Ieee.{Float, nan, inf, fin, Format, up, down, round, rem, fits}
 use lib.Ieee.Exact.{HasValue}
 use lib.Ieee.Nearest.{closest, closest_same}
 use Rattle.float_remainder.specs.Remainder.{least_rest, remainder_by}
@@ -43,6 +43,10 @@ pub rem_exact : {f : Format} {x y : Float} {s t : Bool} {a b c : ℕ} → Operan
 rem_exact {f} {x} {y} {s} {t} {a} {b} {c} g = go x y g.x_fits g.y_fits g.x_value g.y_value
   where
     go : (x y : Float) → T (fits f x) → T (fits f y) → HasValue x s a c → HasValue y t b c → HasValue (rem f x y) s (a % b) c
+    go nan _ X Y p q = elim p [ ]
+    go (inf _) _ X Y p q = elim p [ ]
+    go (fin u m e) nan X Y p q = elim q [ ]
+    go (fin u m e) (inf _) X Y p q = elim q [ ]
     go (fin u m e) (fin w n d) X Y p q =
         let N = pos_of_value n d b c g.y_not_zero q.1 in
         subst₂ (λ (z : Float) (v : Bool). HasValue z v (a % b) c) (sym (rem_is f u m e w n d N)) p.0
@@ -55,6 +59,10 @@ pub remainder_exact : {f : Format} {x y : Float} {s t : Bool} {a b c : ℕ} → 
 remainder_exact {f} {x} {y} {s} {t} {a} {b} {c} g = go x y g.x_fits g.y_fits g.x_value g.y_value
   where
     go : (x y : Float) → T (fits f x) → T (fits f y) → HasValue x s a c → HasValue y t b c → Minus (remainder_by f x y) s a (closest a b * b) c
+    go nan _ X Y p q = elim p [ ]
+    go (inf _) _ X Y p q = elim p [ ]
+    go (fin u m e) nan X Y p q = elim q [ ]
+    go (fin u m e) (inf _) X Y p q = elim q [ ]
     go (fin u m e) (fin w n d) X Y p q =
         let N = pos_of_value n d b c g.y_not_zero q.1 in
         let A = over m e d in

@@ -1,12 +1,12 @@
 // IEEE 754 remainder by 2.0 * PI.
 #![tactic(auto)]
+
 ghost use Rattle.std.specs.Prelude.{◌≡◌};
 ghost use Rattle.std.specs.Float.{binary32};
 ghost use Rattle.std.specs.Float.Ieee.{rem};
 ghost use Rattle.float_remainder.specs.Remainder.{remainder_by, tau};
 
 // x % (2.0 * PI), which is exact. Between -2.0 * PI and 2.0 * PI it is x, and no division is made.
-#[tactic(auto, using(crate::proofs::Small::rem_small))]
 fn rest(x: f32) -> f32
     ensures { result ≡ rem binary32 x tau }
 {
@@ -19,7 +19,6 @@ fn rest(x: f32) -> f32
 // remainderf(x, 2.0 * PI). The rest has x's sign and is less than 2.0 * PI. What lies beyond PI is
 // nearer to the next multiple; PI itself is reached only by x = PI and x = -PI, whose nearest even
 // multiple is 0.
-#[tactic(auto, using(crate::proofs::Half::beyond_half, crate::proofs::Half::within_half))]
 pub fn remainder(x: f32) -> f32
     ensures { result ≡ remainder_by binary32 x tau }
 {

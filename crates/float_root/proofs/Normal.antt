@@ -1,14 +1,14 @@
 -- The root of a significand of 24 digits and an exponent: the digits u of the result are known by two points, the squares of u - 1/2 and u + 1/2, between which the significand lies
 -- (`root_by_points`). u is half of a whole root, rounded up (`points`), or any number that passes one comparison on each side (`near_points`). Assumes nothing.
-use Rattle.std.proofs.Common.{◌≡◌, ℕ, zero, suc, ◌+◌, ◌-◌, ◌*◌, ◌/◌, ◌%◌, ◌^◌, ◌<◌, ◌≤◌, false, sym, refl, ap, ◌∙◌, subst, le_trans, le_of_eq, lt_of_lt_of_le, lt_of_le_of_lt, mul-le-mul_right, mul_assoc, suc-mul, mul_comm, add-mul, mul-le-mul, mul-lt-mul_of_pos_right, mul-pos, mul-suc, mul-add, mul_left_comm, arith, lit<, lit≤, pow_pos, pow_mono, pow-add, shl_lt}
+use Rattle.std.proofs.Common.{◌≡◌, ℕ, zero, suc, ◌+◌, ◌-◌, ◌*◌, ◌/◌, ◌%◌, ◌^◌, ◌<◌, ◌≤◌, false, not, T, sym, refl, ap, ◌∙◌, subst, le_trans, le_of_eq, lt_of_lt_of_le, lt_of_le_of_lt, mul-le-mul_right, mul_assoc, suc-mul, mul_comm, add-mul, mul-le-mul, mul-lt-mul_of_pos_right, mul-pos, mul-suc, mul-add, mul_left_comm, arith, lit<, lit≤, pow_pos, pow_mono, pow-add, shl_lt}
 use native.Mathlib.Nat.{mul-mul-mul_comm, mul-sub, pow-succ'}
 use lib.Arith.{lt_of_le-ne}
-use lib.Ieee.{Float, binary32, units, of_bits}
+use lib.Ieee.{Float, binary32, units, nan_bits, of_bits}
 use lib.Ieee.Exact.{HasValue, units_val}
 use Rattle.float_root.specs.Root.{root_of}
 use Rattle.float_root.proofs.Whole.{IsRoot, root_lt, square_lt, double_square}
 use Rattle.float_root.proofs.Rounded.{root_is, root_fits}
-use Rattle.float_root.proofs.Patterns.{normal_bits}
+use Rattle.float_root.proofs.Patterns.{normal_bits, finite_bits}
 
 -- ---- the two points, doubled so that they are whole numbers
 
@@ -144,3 +144,40 @@ module _ (m e p u : ℕ) (lo : 2 ^ 23 ≤ m) (hi : m < 2 ^ 24) (digit : p ≡ e 
       subst (λ (x : Float). HasValue x false (u * 2 ^ suc i) (2 ^ 149)) (sym is)
       (units_val binary32 false u (suc i) (lt_of_lt_of_le (shl_lt 24 (suc i) root_most) (pow_mono {i = 24 + suc i} {j = 277} (omega arith)))) in
       normal_bits (root_of binary32 w) u (suc i) (root_fits binary32 w) value root_least root_most ∙ ap (λ (x : ℕ). of_bits binary32 (x * 2 ^ 23 + u)) (sym half)
+
+-- ---- the two ways to the digits, each with the word of the result
+
+-- the whole root s, from its half rounded up
+module _ (m e s : ℕ) (lo : 2 ^ 23 ≤ m) (hi : m < 2 ^ 24) (e-lo : 2 ≤ e) (e-hi : e < 380) (at-most : s * s ≤ m * (2 ^ 25 * (1 + e % 2))) (beyond : m * (2 ^ 25 * (1 + e % 2)) < (s + 1) * (s + 1)) where
+  counted_points : Points (m * (2 ^ 25 * (1 + e % 2))) ((s + 1) / 2)
+  counted_points =
+      let d = doubled m (e % 2) (omega arith) lo hi in
+      let large : 2 ^ 24 < s + 1 = root_lt (2 ^ 24) (s + 1) (lt_of_le_of_lt d.0 beyond) in
+      points (m * (2 ^ 25 * (1 + e % 2))) s (omega (arith, d)) (omega arith) (at-most, beyond)
+
+  pub counted_most : (s + 1) / 2 < 2 ^ 24
+  counted_most = root_most m e (e % 2) ((s + 1) / 2) lo hi refl counted_points
+
+  pub counted_finite : T (not (nan_bits binary32 (e / 2 * 2 ^ 23 + (s + 1) / 2)))
+  counted_finite = finite_bits _ (omega (arith, counted_most))
+
+  pub counted_word : of_bits binary32 (e / 2 * 2 ^ 23 + (s + 1) / 2) ≡ root_of binary32 (m * 2 ^ (e + 23))
+  counted_word = sym (root_by_points m e (e % 2) ((s + 1) / 2) lo hi refl counted_points e-lo e-hi)
+
+-- a u that passes the two comparisons
+module _ (m e u : ℕ) (lo : 2 ^ 23 ≤ m) (hi : m < 2 ^ 24) (e-lo : 2 ≤ e) (e-hi : e < 380) (below : u * u < m * (2 ^ 23 * (1 + e % 2)) + u) (above : m * (2 ^ 23 * (1 + e % 2)) ≤ u * u + u) where
+  compared_points : Points (m * (2 ^ 25 * (1 + e % 2))) u
+  compared_points = subst (λ (x : ℕ). Points x u) (sym (doubled m (e % 2) (omega arith) lo hi).2) (near_points (m * (2 ^ 23 * (1 + e % 2))) u below above)
+
+  pub compared_most : u < 2 ^ 24
+  compared_most = root_most m e (e % 2) u lo hi refl compared_points
+
+  pub compared_finite : T (not (nan_bits binary32 (e / 2 * 2 ^ 23 + u)))
+  compared_finite = finite_bits _ (omega (arith, compared_most))
+
+  pub compared_word : of_bits binary32 (e / 2 * 2 ^ 23 + u) ≡ root_of binary32 (m * 2 ^ (e + 23))
+  compared_word = sym (root_by_points m e (e % 2) u lo hi refl compared_points e-lo e-hi)
+
+-- ---- a digit more for a significand, and one less for its exponent
+pub digit_gained : (m e w : ℕ) → 0 < e → m * 2 ^ (e + 23) ≡ w → m * 2 * 2 ^ (e - 1 + 23) ≡ w
+digit_gained m e w pos h = mul_assoc m 2 (2 ^ (e - 1 + 23)) ∙ ap (λ (x : ℕ). m * x) (sym (pow-succ' 2 (e - 1 + 23)) ∙ ap (λ (x : ℕ). 2 ^ x) (omega arith)) ∙ h

@@ -3,7 +3,7 @@ use Rattle.std.proofs.Common.{◌≡◌, ℕ, suc, ◌+◌, ◌-◌, ◌*◌, �
 use native.Mathlib.Nat.{div-eq_of_lt}
 use borrow.Author.Tests.{lt-leb}
 use lib.Arith.{le→nltb}
-use lib.Ieee.{Float, fin, binary32, up, down, size, odd, fits, nan_bits, of_fields, of_bits, to_bits}
+use lib.Ieee.{Float, nan, inf, fin, binary32, up, down, size, odd, fits, nan_bits, of_fields, of_bits, to_bits}
 use lib.Ieee.Fits.{down_pos}
 use lib.Ieee.Exact.{HasValue, odd_sign}
 use lib.Ieee.Bits.{of_bits-to_bits, nan_bits_above}
@@ -18,6 +18,8 @@ to_bits_of m e n h =
 
 -- a value of u * 2 ^ k units, u having 24 digits, is the value of its bits
 pub normal_bits : (r : Float) (u k : ℕ) → T (fits binary32 r) → HasValue r false (u * 2 ^ k) (2 ^ 149) → 2 ^ 23 ≤ u → u < 2 ^ 24 → r ≡ of_bits binary32 (k * 2 ^ 23 + u)
+normal_bits nan u k F v lo hi = elim v [ ]
+normal_bits (inf s) u k F v lo hi = elim v [ ]
 normal_bits (fin true m e) u k F v lo hi = absurd (true≢false v.0)
 normal_bits (fin false m e) u k F v lo hi =
     let n = u * 2 ^ k in

@@ -1,4 +1,4 @@
--- IEEE 754 square_root: the exact root, rounded once to the format. Written for any format, as the kit's `add` and `mul` are. Assumes nothing.
+-- IEEE 754 squareRoot: the exact root, rounded once to the format. Written for any format, as the kit's `add` and `mul` are. Assumes nothing.
 use Rattle.std.specs.Prelude.{ℕ, zero, suc, ◌+◌, ◌*◌, ◌/◌, ◌^◌, true, false, cond, nat_le, nat_lt, Float}
 use Rattle.std.specs.Float.{nan, inf, fin, Format}
 use Rattle.std.specs.Float.Ieee.{low, up, down, size, round}

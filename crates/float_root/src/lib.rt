@@ -1,6 +1,7 @@
 // IEEE 754 squareRoot at binary32, by whole numbers: the root of a significand, and half of an
 // exponent.
 #![tactic(auto)]
+
 ghost use Rattle.std.specs.Prelude.{◌≡◌, ◌+◌, ◌*◌, ◌^◌, ◌<◌, ◌≤◌};
 ghost use Rattle.std.specs.Float.{binary32};
 ghost use Rattle.std.specs.Float.Ieee.{of_bits};
@@ -52,7 +53,7 @@ fn raise(n: u64, s: u64) -> u64
 // The root of m * 2^(e + 23) / 4^149, counted down and up from 2 * u. With n for m * 2^25 or, at an
 // odd e, m * 2^26, the result has half of n's root, which has 25 digits, for its 24: an odd root is
 // never exact, n being even, so it is rounded up, and the result's exponent is half of e.
-#[tactic(auto, using(crate::proofs::Whole::root_lt, crate::proofs::Normal::points, crate::proofs::Normal::doubled, crate::proofs::Normal::root_most, crate::proofs::Normal::root_by_points, crate::proofs::Patterns::finite_bits))]
+#[tactic(auto, using(crate::proofs::Normal::doubled, crate::proofs::Normal::counted_most, crate::proofs::Normal::counted_finite, crate::proofs::Normal::counted_word))]
 fn counted_root(m: u32, e: u32, u: u64) -> f32
     requires bound { (2 ^ 23 ≤ m) × (m < 2 ^ 24) }
     requires le_e { (2 ≤ e) × (e < 380) }
@@ -67,7 +68,7 @@ fn counted_root(m: u32, e: u32, u: u64) -> f32
 // The same by an estimate u of the result's digits, from bits b that end as such a float's do: u is
 // they if a quarter of n lies between u * u - u and u * u + u, which are the squares of u - 1/2 and
 // u + 1/2 but for a quarter.
-#[tactic(auto, using(crate::proofs::Normal::near_points, crate::proofs::Normal::doubled, crate::proofs::Normal::root_most, crate::proofs::Normal::root_by_points, crate::proofs::Patterns::finite_bits))]
+#[tactic(auto, using(crate::proofs::Normal::compared_most, crate::proofs::Normal::compared_finite, crate::proofs::Normal::compared_word))]
 fn root_of(m: u32, e: u32, b: u32) -> f32
     requires bound { (2 ^ 23 ≤ m) × (m < 2 ^ 24) }
     requires le_e { (2 ≤ e) × (e < 380) }
@@ -84,6 +85,7 @@ fn root_of(m: u32, e: u32, b: u32) -> f32
 }
 
 // The root of b / 2^149, which is subnormal: b is brought to 24 digits first.
+#[tactic(auto, using(crate::proofs::Normal::digit_gained))]
 fn subnormal_root(b: u32) -> f32
     requires { (0 < b) × (b < 2 ^ 24) }
     ensures { result ≡ root_of binary32 (b * 2 ^ 149) }
@@ -98,7 +100,7 @@ fn subnormal_root(b: u32) -> f32
 }
 
 // sqrtf. The usual case, a normal float above zero, comes first.
-#[tactic(auto, using(float_bits::proofs::Words::equal_number, crate::proofs::Positive::root_of_value, crate::proofs::Positive::nan_root, crate::proofs::Positive::negative_root, crate::proofs::Positive::last_root, crate::proofs::Patterns::low_value, crate::proofs::Patterns::high_value), unfolding(crate::specs::Root::square_root))]
+#[tactic(auto, using(float_bits::proofs::Words::equal_number, crate::proofs::Positive::nan_root, crate::proofs::Positive::normal_root, crate::proofs::Positive::zero_root, crate::proofs::Positive::small_root, crate::proofs::Positive::negative_made, crate::proofs::Positive::last_root))]
 pub fn sqrt(x: f32) -> f32
     ensures { result ≡ square_root binary32 x }
 {

@@ -1,6 +1,7 @@
 // nalgebra's vectors, as structs of floats by value, and their zeros. Types and constants alone:
 // nearly every crate reads this one, and `vectors` has the operations.
 #![tactic(auto)]
+
 #[derive(Clone, Copy)]
 pub struct Vector2f {
     pub x: f32,

@@ -1,6 +1,7 @@
 // Every constant of `params`, in that file's order. The contracts tie each to its bits in
 // the crate's specs/.
 #![tactic(auto)]
+
 ghost use Rattle.std.specs.Prelude.{◌≡◌};
 ghost use Rattle.params.specs.Params.{tracking_values, limit_values, count_values};
 

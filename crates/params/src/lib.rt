@@ -3,6 +3,7 @@
 // Types and constants alone, for most crates read this one; specs/ has the bits of each, and
 // `param_values` ties it to them.
 #![tactic(auto)]
+
 use na::Vector3f;
 
 // A PID's gains for one axis, a row of the Rust's matrices.

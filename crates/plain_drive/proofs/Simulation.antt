@@ -174,7 +174,7 @@ module _ (c : BodyController) (i : PlanInput) where
 
 pub reset_follows : (c : BodyController) (dt : Float) → Follows c (Plain.step dt (drive_of c) reset) accepted (reset_of c)
 unfolding drive_of reset_of Context.new_context new_vision empty_memory Plain.step Plain.on_reset
-reset_follows c dt = record { reply = refl; state = refl; choices = refl }
+reset_follows c _ = record { reply = refl; state = refl; choices = refl }
 
 -- ---- steer
 

@@ -1,5 +1,6 @@
 // What an outcome does to the six predicted numbers.
 #![tactic(auto)]
+
 ghost use Rattle.std.specs.Prelude.{◌≡◌};
 ghost use Rattle.prediction.specs.Prediction.{velocity_of, predicted_after};
 

@@ -3,6 +3,7 @@
 // guess's differences and products in range. They stand in matches, which compile to tables that no
 // call copies. tools/root_table.py writes this file.
 #![tactic(auto)]
+
 ghost use Rattle.std.specs.Prelude.{◌%◌, ◌^◌, ◌≤◌, ◌<◌};
 
 // The root at the interval's start and a half, times 2^40. Its last 32 digits are the bend too: how

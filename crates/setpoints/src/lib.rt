@@ -1,6 +1,7 @@
 // Setpoints, and what the pose's PID remembers. Types and constants alone, so that a context needs
 // no PID.
 #![tactic(auto)]
+
 use na::{Vector3f, ZEROS_3};
 
 #[derive(Clone, Copy)]

@@ -1,5 +1,6 @@
 // The tick length, a term of document 01: k/4096 s, with k from 1 to 64.
 #![tactic(auto)]
+
 ghost use Rattle.std.specs.Prelude.{◌≡◌};
 ghost use Rattle.tick_length.specs.TickLength.{tick_length_of, refusal_of, refusal_number, seconds_of, micros_of};
 

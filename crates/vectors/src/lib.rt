@@ -1,5 +1,6 @@
 // The operations on vectors that the tick uses and no others. Every step is rounded to f32.
 #![tactic(auto)]
+
 ghost use Rattle.std.specs.Prelude.{◌≡◌};
 ghost use Rattle.na.specs.Vector.{entries3, entries4, sum_of, difference_of, scaled, dot_of};
 

@@ -1,5 +1,6 @@
 // Document 01, 'Finish': from the setpoints and the friction force to wheel speeds and torques.
 #![tactic(auto)]
+
 ghost use Rattle.std.specs.Prelude.{◌≡◌};
 ghost use Rattle.wheels.specs.Outputs.{friction_compensated, finish_outputs};
 
