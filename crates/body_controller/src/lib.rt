@@ -1,6 +1,7 @@
 // `BodyController` by value: a tick is the calls sight, plan, steer and finish, in this order, and
 // reset may come at any turn. Each call takes the controller and hands it back beside its answer.
 #![tactic(auto)]
+
 pub mod controller; // controller.rt: the controller, new, reset and its parts for readers
 pub mod finish; // finish.rt: outputs
 pub mod plan; // plan.rt: the estimate and the decision

@@ -1,6 +1,7 @@
 // What the calls sight, steer and finish work out of their inputs once the context has moved: their
 // answers, and what steer leaves to finish. None of it reads the controller.
 #![tactic(auto)]
+
 pub mod finish; // finish.rt: the outputs and the marks
 pub mod sight; // sight.rt: measurement and predicted state
 pub mod steer; // steer.rt: the twist's limits and the friction twist

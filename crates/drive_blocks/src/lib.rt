@@ -1,5 +1,6 @@
 // Blocks given to a pass one after the other, each with its line.
 #![tactic(auto)]
+
 ghost use Rattle.std.specs.Prelude.{◌≡◌};
 ghost use Rattle.drive_blocks.specs.Blocks.{carried, ticked_on, begun, taken, driven};
 

@@ -1,5 +1,6 @@
 // A pass, a term of document 01: its controller, its numbers, and the line of a refused block.
 #![tactic(auto)]
+
 ghost use Rattle.std.specs.Prelude.{◌≡◌};
 ghost use Rattle.drive_pass.specs.Pass.{next_number, counts_of, refused_by};
 

@@ -1,5 +1,6 @@
 // A tick, a term of document 01: the calls sight, plan, steer and finish, and the tick's line.
 #![tactic(auto)]
+
 ghost use Rattle.std.specs.Prelude.{◌≡◌};
 ghost use Rattle.tick_calls.specs.Tick.{ending_of, ended_by, finished, steered, planned, refused_at, ticked};
 
