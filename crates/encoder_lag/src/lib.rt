@@ -1,5 +1,6 @@
 // The encoder lag: the `FirstOrderLag` that control_context.rs makes for a tick length.
 #![tactic(auto)]
+
 ghost use Rattle.std.specs.Prelude.{◌≡◌, true};
 ghost use Rattle.tick_length.specs.TickLength.{is_tick_length, refusal_of};
 ghost use Rattle.encoder_lag.specs.EncoderLag.{duration_to_secs, horizon_over, Castable, n_steps_of, new_lag, lag_of, refusal_number};
@@ -35,7 +36,7 @@ fn n_steps_of(dt_secs: f32) -> usize
 }
 
 // The lag of a tick length, at rest, both axes alike.
-#[tactic(auto, using(crate::proofs::Range::horizon_castable), unfolding(crate::specs::EncoderLag::dt_of, crate::specs::EncoderLag::new_lag, na::specs::Vector::zeros2))]
+#[tactic(auto, unfolding(crate::specs::EncoderLag::dt_of, crate::specs::EncoderLag::new_lag, na::specs::Vector::zeros2))]
 fn lag_of(t: TickLength) -> FirstOrderLag
     requires { is_tick_length t.k ≡ true }
     ensures { result ≡ new_lag t.k }

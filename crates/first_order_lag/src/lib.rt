@@ -1,5 +1,6 @@
 // `FirstOrderLag` of lib-stm32's model/mod.rs over two axes, by value.
 #![tactic(auto)]
+
 ghost use Rattle.std.specs.Prelude.{◌≡◌};
 ghost use Rattle.first_order_lag.specs.FirstOrderLag.{x_axis, y_axis, reset_of, stepped_of, inverted_of};
 

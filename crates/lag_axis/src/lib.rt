@@ -1,5 +1,6 @@
 // `FirstOrderLag` of lib-stm32's model/mod.rs on one axis.
 #![tactic(auto)]
+
 ghost use Rattle.std.specs.Prelude.{◌≡◌};
 ghost use Rattle.lag_axis.specs.Axis.{one_over_t, axis_step, axis_invert, lag_turn, iterated};
 

@@ -1,5 +1,6 @@
 // pid.rs: a PID controller by value, for one axis.
 #![tactic(auto)]
+
 ghost use Rattle.std.specs.Prelude.{◌≡◌};
 ghost use Rattle.pid.specs.Axis.{anti_jitter, limited, calculated, calculated_with_derivative, reset_of, new_controller};
 

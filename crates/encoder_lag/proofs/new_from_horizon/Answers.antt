@@ -1,0 +1,11 @@
+-- Where a tick length is made, its k is the one given. Assumes nothing.
+use Rattle.std.proofs.Common.{sym, refl}
+use Rattle.tick_length.proofs.Answer.{made_is}
+use Rattle.encoder_lag.specs.EncoderLag.{lag_of}
+use Rattle.encoder_lag.proofs.new_from_horizon.Goals as goal
+
+pub returns-in-Made : goal.returns-in-Made
+unfolding lag_of
+returns-in-Made c =
+    let made = made_is c.args.k c.in-Made.t (sym c.in-Made.ensures.0) in
+    rw (← made.1, made.0, c.lag_of.ensures) (refl, refl)
