@@ -30,7 +30,7 @@ def cubic(i):
 
 
 def function(name, ensures, entries, comment):
-    print(f'\n{comment}\npub fn {name}(i: u32) -> u64\n    ensures {{ λ r. ⌜ {ensures} ⌝ }}\n{{\n    match i {{')
+    print(f'\n{comment}\npub fn {name}(i: u32) -> u64\n    ensures {{ {ensures} }}\n{{\n    match i {{')
     for i, entry in enumerate(entries):
         print(f'        {i if i < 63 else "_"} => 0x{entry:x},')
     print('    }\n}')
@@ -40,9 +40,11 @@ print('''// The cubics of sqrt's first guess at a root, one for each last digit 
 // each of 32 intervals of significands. Only speed rests on these numbers; the contracts keep the
 // guess's differences and products in range. They stand in matches, which compile to tables that no
 // call copies. tools/root_table.py writes this file.
-ghost use Prim.Native.Nat.{_%_, _^_, _≤_, _<_};''')
+#![tactic(auto)]
+
+ghost use Rattle.std.specs.Prelude.{◌%◌, ◌^◌, ◌≤◌, ◌<◌};''')
 values, slopes = zip(*map(cubic, range(64)))
-function('value', '2 ^ 26 ≤ r % 2 ^ 32', values, '''// The root at the interval's start and a half, times 2^40. Its last 32 digits are the bend too: how
+function('value', '2 ^ 26 ≤ result % 2 ^ 32', values, '''// The root at the interval's start and a half, times 2^40. Its last 32 digits are the bend too: how
 // much less the root rises with each step from the start, times 2^57.''')
-function('slope', 'r < 2 ^ 40', slopes, '''// How much the root rises with each step, times 2^40. Its last 8 digits are also how much less the
+function('slope', 'result < 2 ^ 40', slopes, '''// How much the root rises with each step, times 2^40. Its last 8 digits are also how much less the
 // bend is with each step, times 2^57.''')

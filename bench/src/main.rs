@@ -1,4 +1,4 @@
-// Speed and agreement of the functions that target/staticlib/libfloat_exports.a exports.
+// Speed and agreement of the functions that crates/float_exports/out/libfloat_exports.a exports.
 mod functions;
 mod hypots;
 mod random;

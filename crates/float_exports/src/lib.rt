@@ -1,5 +1,6 @@
 // The root, the remainder and the hypotenuse under plain names, for Rust or C to link.
 #![tactic(auto)]
+
 ghost use Rattle.std.specs.Prelude.{◌≡◌};
 ghost use Rattle.std.specs.Float.{binary32};
 ghost use Rattle.float_root.specs.Root.{square_root};
