@@ -1,5 +1,6 @@
 // Document 01, 'Steer': the friction twist, local and gated.
 #![tactic(auto)]
+
 ghost use Rattle.std.specs.Prelude.{◌≡◌};
 ghost use Rattle.friction.specs.Friction.{linear_comp_on, angular_comp_on, kept_if, friction_twist};
 

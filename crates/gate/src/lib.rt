@@ -1,5 +1,6 @@
 // The gate of `update_state_estimate`: which sightings are taken.
 #![tactic(auto)]
+
 ghost use Rattle.std.specs.Prelude.{◌≡◌};
 ghost use Rattle.gate.specs.Gate.{seeding_judged, tracking_judged, judged};
 

@@ -1,5 +1,6 @@
 // Document 01, 'Steer': the tracking error, and what recovery makes of it.
 #![tactic(auto)]
+
 ghost use Rattle.std.specs.Prelude.{◌≡◌};
 ghost use Rattle.recovery.specs.Recovery.{tracking_errors, tracking_error_exceeded, recovery};
 

@@ -1,5 +1,6 @@
 // A seeding: sightings gathered until their places are known to be steady.
 #![tactic(auto)]
+
 ghost use Rattle.std.specs.Prelude.{◌≡◌};
 ghost use Rattle.seeding.specs.Seeding.{fresh_seeding, gathered, deviation, steady};
 

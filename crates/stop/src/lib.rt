@@ -1,5 +1,6 @@
 // Document 01, 'Steer': the stop state's speed.
 #![tactic(auto)]
+
 ghost use Rattle.std.specs.Prelude.{◌≡◌};
 ghost use Rattle.stop.specs.Stop.{stop_scaled};
 

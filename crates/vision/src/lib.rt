@@ -1,5 +1,6 @@
 // The gate of `update_state_estimate` and the vision clock together, a tick at a time.
 #![tactic(auto)]
+
 ghost use Rattle.std.specs.Prelude.{◌≡◌};
 ghost use Rattle.vision.specs.Vision.{clock_after, active, new_vision, vision_after};
 
