@@ -1,6 +1,7 @@
 -- What is shown of batches: driven one after the other they are one run over all the bytes, and no byte is passed over. Proved in
 -- proofs/Batches.antt. Assumes nothing.
-use Rattle.std.specs.Prelude.{ℕ, ◌*◌, ◌≤◌, ◌≡◌, false, length, List, ◌++◌, flatten}
+use Rattle.std.specs.Prelude.{ℕ, ◌*◌, ◌≤◌, ◌≡◌, false, length, List, ◌++◌}
+use mathlib.Core.List.{flatten}
 use Rattle.drive_pass.specs.declared.Pass.{Pass}
 use Rattle.drive_text.specs.Batch.{then, batch_of, whole_of, text_of}
 

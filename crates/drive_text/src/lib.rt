@@ -1,5 +1,6 @@
 // A pass and a lent block in, the next pass and its line of text out; the same for a batch of blocks.
 #![tactic(auto)]
+
 ghost use Rattle.std.specs.Prelude.{◌++◌, ◌≡◌, ◌+◌, ◌-◌, ◌≤◌, min, length, take, drop};
 ghost use Rattle.text_pieces.specs.Puts.{Within};
 ghost use Rattle.drive_text.specs.Written.{written, block_text};

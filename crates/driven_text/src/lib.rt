@@ -1,5 +1,6 @@
 // A driven block's line as text behind other text, beside the pass that the block leaves.
 #![tactic(auto)]
+
 ghost use Rattle.std.specs.Prelude.{◌++◌, ◌≡◌, ◌+◌, ◌≤◌, length, take, drop};
 ghost use Rattle.line_text.specs.Text.{line_text};
 ghost use Rattle.driven_text.specs.Written.{is_refused, behind, end_of, written_behind};

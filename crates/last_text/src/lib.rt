@@ -1,5 +1,6 @@
 // The last line of a pass, as text.
 #![tactic(auto)]
+
 ghost use Rattle.std.specs.Prelude.{◌++◌, ◌≡◌, ◌≤◌, length, drop};
 ghost use Rattle.text_pieces.specs.Puts.{Within};
 ghost use Rattle.totals_text.specs.Totals.{totals_text};

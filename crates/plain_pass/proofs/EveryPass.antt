@@ -40,7 +40,7 @@ use Rattle.drive_pass.specs.Pass.{next_number, counts_of, refused_by}
 use Rattle.tick_calls.specs.declared.Ticked.{Ticked}
 use Rattle.tick_calls.specs.Tick as Tick
 use Rattle.tick_calls.specs.Tick.{ended_by, ending_of, finished, steered_with, steered, planned_with, planned, ticked_with, ticked}
-use Rattle.drive_blocks.specs.Blocks.{order_refusal, carried, ticked_on, begun_with, begun, taken_with, taken, driven_with, driven}
+use Rattle.drive_blocks.specs.Blocks.{carried, ticked_on, begun_with, begun, taken_with, taken, driven_with, driven}
 use Rattle.plain_pass.specs.PlainPass.{ending_number, mark_of, PlainPass, none, at, PlainDriven, reply_after, refusal_in, ended_at, at_finish, at_steer, at_plan, plain_tick, plain_ticks, plain_counts, refused_at, plain_take, plain_read, plain_pass, plain_marks, Passed, marks_of, StandsOn, EveryPass}
 
 -- a controller behind the calls of a pass

@@ -111,7 +111,7 @@ plain_ticks none = 0
 plain_ticks (at k calls) = (Plain.driven k calls).ticks
 
 abbrev pub plain_counts : PlainPass → List ℕ
-plain_counts none = (Plain.start).counts
+plain_counts none = Plain.start.counts
 plain_counts (at k calls) = (Plain.driven k calls).counts
 
 -- a refused block: nothing changes
