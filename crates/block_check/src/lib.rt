@@ -1,5 +1,6 @@
 // The words of a tick block that are tested and hold no input: the check and the spare ones.
 #![tactic(auto)]
+
 ghost use Rattle.std.specs.Prelude.{◌≡◌};
 ghost use Rattle.block_check.specs.Check.{check_of, zero_spares, spare_zero};
 

@@ -1,5 +1,6 @@
 // The floats of a block, one by one and by vectors.
 #![tactic(auto)]
+
 ghost use Rattle.std.specs.Prelude.{◌≡◌};
 ghost use Rattle.block_floats.specs.Floats.{float_at, vector2_at, vector3_at, vector4_at};
 

@@ -1,5 +1,6 @@
 // The order of a pass' blocks, a term of document 01: refusals 9 and 10, and where a batch ends.
 #![tactic(auto)]
+
 ghost use Rattle.std.specs.Prelude.{◌≡◌};
 ghost use Rattle.block_order.specs.Order.{order_of, goes_on};
 

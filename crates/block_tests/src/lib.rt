@@ -1,5 +1,6 @@
 // The tests of a tick block, in document 01's order: 5, 6, 7, 8, 1, 4.
 #![tactic(auto)]
+
 ghost use Rattle.std.specs.Prelude.{◌≡◌};
 ghost use Rattle.block_tests.specs.Tests.{inputs_tested, format_tested, block_tested, refusal_number};
 

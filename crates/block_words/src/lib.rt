@@ -1,5 +1,6 @@
 // The words of a block: 32 bits each, lowest byte first.
 #![tactic(auto)]
+
 ghost use Rattle.std.specs.Prelude.{◌≡◌, ◌+◌, ◌≤◌, ◌<◌, length};
 ghost use Rattle.block_words.specs.Word.{word_from, word_at};
 

@@ -1,5 +1,6 @@
 // Commands and their words.
 #![tactic(auto)]
+
 ghost use Rattle.std.specs.Prelude.{◌≡◌};
 ghost use Rattle.cmd.specs.Command.{is_mode, command_from, refusal_number, refusal_of};
 

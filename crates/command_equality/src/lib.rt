@@ -1,5 +1,6 @@
 // When two commands are equal, and whether the command changed.
 #![tactic(auto)]
+
 ghost use Rattle.std.specs.Prelude.{◌≡◌};
 ghost use Rattle.cmd.specs.Command.{position_fields, line_fields};
 ghost use Rattle.command_equality.specs.Equality.{fields_equal, equal, command_changed};
@@ -7,7 +8,6 @@ ghost use Rattle.command_equality.specs.Equality.{fields_equal, equal, command_c
 use cmd::{GlobalPosition, HeadingLine, ManeuverCommand};
 use memory::PrevCommand;
 
-#[tactic(auto, using(crate::proofs::Fields::from_left_lem), unfolding(crate::proofs::Fields::from_left))]
 fn positions_equal(p: GlobalPosition, o: GlobalPosition) -> bool
     ensures { result ≡ fields_equal (position_fields p) (position_fields o) }
 {
@@ -20,7 +20,6 @@ fn positions_equal(p: GlobalPosition, o: GlobalPosition) -> bool
         & (p.max_angular_acc == o.max_angular_acc)
 }
 
-#[tactic(auto, using(crate::proofs::Fields::from_left_lem), unfolding(crate::proofs::Fields::from_left))]
 fn lines_equal(l: HeadingLine, o: HeadingLine) -> bool
     ensures { result ≡ fields_equal (line_fields l) (line_fields o) }
 {

@@ -1,5 +1,6 @@
 // Normal or recovering: `TrackingDivergenceState`.
 #![tactic(auto)]
+
 ghost use Rattle.std.specs.Prelude.{◌≡◌};
 ghost use Rattle.divergence.specs.Divergence.{is_recovering};
 

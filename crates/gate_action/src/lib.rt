@@ -1,5 +1,6 @@
 // The eight outcomes of the gate, and what document 01 says of each.
 #![tactic(auto)]
+
 ghost use Rattle.std.specs.Prelude.{◌≡◌};
 ghost use Rattle.gate_action.specs.Outcome.{letter_of, takes, overwrites};
 

@@ -1,5 +1,6 @@
 // What the tick's four calls take. Types alone, so that who reads them from a block needs no controller.
 #![tactic(auto)]
+
 use cmd::CommandWords;
 use matrices::{Matrix3, Matrix3x4, Matrix4x3};
 use memory::Sample;

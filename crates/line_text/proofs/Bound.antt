@@ -1,5 +1,5 @@
 -- A tick's line has at most 53 bytes, and a refused block's 24: both fit into the array. Assumes nothing.
-use Prim.Native.Nat.{ℕ, ◌≤◌}
+use Prim.Native.Nat.{◌≤◌}
 use lib.ListN.{length, length-append}
 use native.Mathlib.Omega.{arith}
 use Rattle.text_pieces.proofs.Digits.{at_most_ten}

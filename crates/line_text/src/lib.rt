@@ -1,6 +1,7 @@
 // The text of program `drive` but its last line: one line for each tick or refused block. A line goes
 // into a lent array that can't be too short; what stands behind it there stays.
 #![tactic(auto)]
+
 ghost use Rattle.std.specs.Prelude.{◌≤◌, ◌≡◌, ◌++◌, length, drop};
 ghost use Rattle.text_pieces.specs.Puts.{Puts, Within};
 ghost use Rattle.line_text.specs.Text.{ending_text, line_text, refused_text, tick_text};

@@ -1,5 +1,6 @@
 // The tick's one decision over mode, halt, recovery and vision.
 #![tactic(auto)]
+
 ghost use Rattle.std.specs.Prelude.{◌≡◌};
 ghost use Rattle.maneuvers.specs.Plan.{in_mode, maneuver_answer, decided, number_decided};
 ghost use Rattle.plan_answer.specs.Answer.{answer_number};

@@ -1,5 +1,6 @@
 // A tick's letter and marks, put at a place of a lent array, which holds a line.
 #![tactic(auto)]
+
 ghost use Rattle.std.specs.Prelude.{cond, ◌≡◌, [], ◌∷◌};
 ghost use Rattle.text_pieces.specs.Pieces.{field};
 ghost use Rattle.text_pieces.specs.Puts.{Puts};

@@ -3,7 +3,6 @@ use Rattle.cmd.specs.declared.ManeuverCommand.{ManeuverCommand}
 use Rattle.memory.specs.declared.Sample.{Sample}
 use Rattle.memory.specs.declared.HeldSample as Held
 use Rattle.memory.specs.declared.HeldSample.TheVariants as HeldSample
-use Rattle.memory.specs.declared.PrevCommand.{PrevCommand}
 use Rattle.memory.specs.declared.PrevCommand.TheVariants as Prev
 use Rattle.memory.specs.declared.Memory.{Memory}
 

@@ -1,5 +1,6 @@
 // What plan and steer remember: the held sample and the previous command.
 #![tactic(auto)]
+
 ghost use Rattle.std.specs.Prelude.{◌≡◌};
 ghost use Rattle.memory.specs.Memory.{empty_memory, trajectory_dropped, after_tracking, held_or};
 

@@ -1,5 +1,6 @@
 // Plan's four answers, and what each asks for.
 #![tactic(auto)]
+
 ghost use Rattle.std.specs.Prelude.{◌≡◌};
 ghost use Rattle.plan_answer.specs.Answer.{disables_wheels, needs_plan};
 

@@ -1,5 +1,6 @@
 // The inputs of sight and plan, read from a tick block.
 #![tactic(auto)]
+
 mod command; // command.rt: the command words
 mod layout; // layout.rt: where the words lie
 mod parts; // parts.rt: a state and a matrix

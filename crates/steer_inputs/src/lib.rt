@@ -1,5 +1,6 @@
 // The inputs of steer and finish, read from a tick block.
 #![tactic(auto)]
+
 mod layout; // layout.rt: where the words lie
 mod parts; // parts.rt: samples and matrices
 

@@ -1,5 +1,6 @@
 // What a list of stored answers has shown.
 #![tactic(auto)]
+
 ghost use Rattle.std.specs.Prelude.{◌≡◌, ◌-◌};
 ghost use Rattle.tally.specs.Tally.{none_yet, counted};
 

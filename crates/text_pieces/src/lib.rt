@@ -1,6 +1,7 @@
 // Bytes and decimal numbers, each put at a place of a lent array, which holds a line. Each function
 // answers the place behind what it put, the array's end at most: what doesn't fit is left out.
 #![tactic(auto)]
+
 ghost use Rattle.std.specs.Prelude.{[], ◌∷◌};
 ghost use Rattle.text_pieces.specs.Pieces.{decimal, field};
 ghost use Rattle.text_pieces.specs.Puts.{Puts};

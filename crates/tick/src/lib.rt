@@ -1,5 +1,6 @@
 // Small parts of a tick: the eight counts, the outputs, and the numbers of the refusals.
 #![tactic(auto)]
+
 pub mod count; // count.rt: how often each outcome came
 pub mod refusals; // refusals.rt: document 01's numbers
 

@@ -1,5 +1,6 @@
 // A lent block of any length is read as a tick block, a term of document 01, or refused.
 #![tactic(auto)]
+
 ghost use Rattle.std.specs.Prelude.{◌≡◌};
 ghost use Rattle.tick_block.specs.Block.{tick_block, block_read, answer_number, block_refusal};
 

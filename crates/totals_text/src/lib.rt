@@ -1,5 +1,6 @@
 // The last line of program `drive`: how many ticks, and how often each outcome came.
 #![tactic(auto)]
+
 ghost use Rattle.std.specs.Prelude.{◌≤◌, ◌≡◌, ◌++◌, length, drop};
 ghost use Rattle.text_pieces.specs.Pieces.{field, decimal};
 ghost use Rattle.text_pieces.specs.Puts.{Puts, Within};

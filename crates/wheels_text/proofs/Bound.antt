@@ -1,5 +1,4 @@
 -- Four wheel speeds are 36 bytes. Assumes nothing.
-use Prim.Native.Nat.{ℕ}
 use mathlib.Core.Path.{◌≡◌, refl}
 use lib.ListN.{length}
 use Rattle.na.specs.declared.Vector4f.{Vector4f}

@@ -1,5 +1,6 @@
 // The wheel speeds of a tick's line: each a space and its bits as eight hexadecimal digits.
 #![tactic(auto)]
+
 ghost use Rattle.std.specs.Prelude.{[], ◌∷◌, ◌%◌};
 ghost use Rattle.text_pieces.specs.Pieces.{field};
 ghost use Rattle.text_pieces.specs.Puts.{Puts};
