@@ -1,5 +1,6 @@
 // active_brake.rs: each wheel is driven to rest by a P controller on its measured speed.
 #![tactic(auto)]
+
 ghost use Rattle.std.specs.Prelude.{◌≡◌};
 ghost use Rattle.active_brake.specs.Brake.{brake_of, refusal_number, refusal_of, new_brake, computed, reset_brake};
 

@@ -1,5 +1,6 @@
 // active_brake.rs: the controller of one wheel.
 #![tactic(auto)]
+
 ghost use Rattle.std.specs.Prelude.{◌≡◌};
 ghost use Rattle.brake_wheel.specs.Wheel.{wheel_controller};
 

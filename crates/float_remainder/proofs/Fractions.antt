@@ -5,7 +5,7 @@ use Prim.Native.Nat.{ℕ, ◌+◌, ◌-◌, ◌*◌, ◌/◌, ◌%◌, ◌≤◌
 use native.Mathlib.Nat.{le_trans, le_of_eq, lt_of_lt_of_le, lt_of_le_of_lt, add-mul, mul_assoc, mul_comm, mul-sub, mul_right_comm, mul-pos, mul-mul-mul_comm, eq_of_mul-eq-mul_right, mul-le-mul_right, mul-lt-mul_of_pos_right, le_of_mul-le-mul_right, lt_of_mul-lt-mul_right, mod-lt, div-add-mod'}
 use lib.Arith.{digits_mod}
 
-scale_mod : (x y k : ℕ) → 0 < y → 0 < k → x * k % (y * k) ≡ x % y * k
+pub scale_mod : (x y k : ℕ) → 0 < y → 0 < k → x * k % (y * k) ≡ x % y * k
 scale_mod x y k Y K =
     ap (λ (z : ℕ). z % (y * k)) (ap (λ (z : ℕ). z * k) (sym (div-add-mod' x y)) ∙ add-mul (x / y * y) (x % y) k ∙ ap (λ (z : ℕ). z + x % y * k) (mul_assoc (x / y) y k))
     ∙ digits_mod (x / y) (mul-lt-mul_of_pos_right (mod-lt x Y) K)

@@ -7,4 +7,5 @@ pub mod Minus
 pub mod Laws
 mod Half
 mod Small
+mod Beyond
 pub mod Cases

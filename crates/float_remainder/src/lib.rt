@@ -1,19 +1,41 @@
 // IEEE 754 remainder by 2.0 * PI.
 #![tactic(auto)]
 
-ghost use Rattle.std.specs.Prelude.{◌≡◌};
+ghost use Rattle.std.specs.Prelude.{◌≡◌, ◌*◌, ◌%◌, ◌^◌, ◌<◌};
 ghost use Rattle.std.specs.Float.{binary32};
 ghost use Rattle.std.specs.Float.Ieee.{rem};
 ghost use Rattle.float_remainder.specs.Remainder.{remainder_by, tau};
 
-// x % (2.0 * PI), which is exact. Between -2.0 * PI and 2.0 * PI it is x, and no division is made.
+use float_bits::to_bits;
+
+// (m * 2^k) % 13176795, a doubling at a time.
+#[tactic(auto, using(crate::proofs::Beyond::doubled_rest))]
+fn doubled_rest(m: u32, k: u32) -> u32
+    ensures value { result ≡ m * 2 ^ k % 13176795 }
+    ensures bound { result < 13176795 }
+{
+    let mut r = m % 13176795;
+    for _ in 0..k {
+        r = r * 2 % 13176795;
+    }
+    r
+}
+
+// x % (2.0 * PI), which is exact, by whole numbers: 2.0 * PI is 13176795 / 2^21. Below 4.0 it is x.
 fn rest(x: f32) -> f32
     ensures { result ≡ rem binary32 x tau }
 {
-    if (x > -6.2831855) & (x < 6.2831855) {
+    let b = to_bits(x);
+    let size = b % 0x8000_0000;
+    if size < 0x4080_0000 {
         return x;
     }
-    x % 6.2831855
+    if size >= 0x7f80_0000 {
+        return 0.0 / 0.0;
+    }
+    let r = doubled_rest(size % 0x80_0000 + 0x80_0000, size / 0x80_0000 - 129);
+    let y = r as f32 * 4.7683715820312e-7;
+    if b < 0x8000_0000 { y } else { -y }
 }
 
 // remainderf(x, 2.0 * PI). The rest has x's sign and is less than 2.0 * PI. What lies beyond PI is

@@ -1,5 +1,6 @@
 // Document 01, 'Steer' and 'Finish': the clamps of twist and acceleration.
 #![tactic(auto)]
+
 ghost use Rattle.std.specs.Prelude.{◌≡◌};
 ghost use Rattle.limits.specs.Limits.{clamped_to, twist_clamped, accel_clamped};
 

@@ -1,6 +1,7 @@
 // nalgebra's matrices by rows, as structs of vectors by value, their products with a vector, and
 // rotation. Every step is rounded to f32.
 #![tactic(auto)]
+
 pub mod matrix; // matrix.rt: matrices by rows, and their products with a vector
 pub mod rotation; // rotation.rt: a vector turned to global and to local axes
 

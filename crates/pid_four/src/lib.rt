@@ -1,5 +1,6 @@
 // pid.rs, `PidController<4>`: one controller of `pid` for each entry of a vector.
 #![tactic(auto)]
+
 ghost use Rattle.std.specs.Prelude.{◌≡◌};
 ghost use Rattle.pid_four.specs.Four.{joined4, calculated4, calculated_with_derivative4, reset4};
 

@@ -1,5 +1,6 @@
 // pid.rs, `PidController<3>`: one controller of `pid` for each entry of a vector.
 #![tactic(auto)]
+
 ghost use Rattle.std.specs.Prelude.{◌≡◌};
 ghost use Rattle.pid_three.specs.Three.{joined3, calculated3, calculated_with_derivative3, reset3};
 

@@ -1,5 +1,6 @@
 // Document 01, 'Steer': control_context.rs from the trajectory's sample to the setpoints.
 #![tactic(auto)]
+
 ghost use Rattle.std.specs.Prelude.{◌≡◌};
 ghost use Rattle.na.specs.Vector.{zero_float};
 ghost use Rattle.tracking.specs.Setpoints.{pose_axis, axis_answered, pose_answered, wrapped, twist_setpoint, accel_setpoint, tracking_setpoints};

@@ -1,5 +1,6 @@
 // Document 01, 'Steer': when a tracking error exceeds its limit, and when the wheels are at rest.
 #![tactic(auto)]
+
 ghost use Rattle.std.specs.Prelude.{◌≡◌};
 ghost use Rattle.tracking_limits.specs.Limits.{any_exceeds, at_rest};
 
