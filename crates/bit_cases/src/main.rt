@@ -2,11 +2,13 @@
 // the block with each of its bits turned, without and with a new check, and cut or lengthened to each
 // length up to 1,024 bytes. Of each a glyph is printed.
 #![tactic(auto)]
+
 use block_words::word_at;
 use drive_blocks::drive;
 use drive_pass::Pass;
-use libc::{STDIN_FILENO, STDOUT_FILENO};
+use full_read::read_full;
 use line_text::Line;
+use std::io;
 
 // A refusal as a hexadecimal digit.
 fn digit(refusal: u8) -> u8 {
@@ -73,7 +75,7 @@ fn turned(block: &mut [u8], word: u8, bit: u8, fresh: bool) -> u8 {
 }
 
 // A word's line: a glyph for each of its bits, the lowest first.
-fn print_word(block: &mut [u8], word: u8, fresh: bool) {
+fn print_word(rt: &HostRuntime, block: &mut [u8], word: u8, fresh: bool) -> io::Result<()> {
     let mut line = [b'\n'; 33];
     let mut bit: u8 = 0;
     while bit < 32 {
@@ -81,36 +83,37 @@ fn print_word(block: &mut [u8], word: u8, fresh: bool) {
         put_byte(&mut line, bit as usize, g);
         bit = bit + 1;
     }
-    io::write_all(STDOUT_FILENO, &line);
+    rt.write_all(&line)
 }
 
 // A line for each of the first words.
-fn print_words(block: &mut [u8], words: u8, fresh: bool) {
+fn print_words(rt: &HostRuntime, block: &mut [u8], words: u8, fresh: bool) -> io::Result<()> {
     let mut word: u8 = 0;
     while word < words {
-        print_word(block, word, fresh);
+        print_word(rt, block, word, fresh)?;
         word = word + 1;
     }
+    Ok(())
 }
 
 // One line: a glyph for each length.
-fn print_lengths(bytes: &[u8]) {
+fn print_lengths(rt: &HostRuntime, bytes: &[u8]) -> io::Result<()> {
     let mut line = [b'\n'; 1026];
     let mut n: usize = 0;
     while n <= bytes.len() {
         put_byte(&mut line, n, glyph(&bytes[..n]));
         n = n + 1;
     }
-    io::write_all(STDOUT_FILENO, &line);
+    rt.write_all(&line)
 }
 
 // The check's own bits are turned only without a new check.
-fn main() {
+fn main(rt: HostRuntime) -> io::Result<()> {
     let mut block = [0; 512];
-    io::read_full(STDIN_FILENO, &mut block);
-    print_words(&mut block, 128, false);
-    print_words(&mut block, 127, true);
+    read_full(&mut rt.stdin(), &mut block)?;
+    print_words(&rt, &mut block, 128, false)?;
+    print_words(&rt, &mut block, 127, true)?;
     let mut long = [0; 1024];
-    bytes::copy(&block, &mut long);
-    print_lengths(&long);
+    long[..512].copy_from_slice(&block);
+    print_lengths(&rt, &long)
 }

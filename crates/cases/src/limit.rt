@@ -3,6 +3,7 @@ ghost use Rattle.std.specs.Prelude.{◌≡◌, length};
 
 use crate::drive_next;
 use drive_pass::Pass;
+use std::io;
 
 // One block more than a pass can drive.
 const BLOCKS: u32 = 16_777_217;
@@ -23,7 +24,7 @@ fn put_number(block: &mut [u8; 512], number: u32)
 }
 
 // The blocks have version 1 and k = 4. Only a refused one is printed.
-pub(crate) fn drive_to_limit() {
+pub(crate) fn drive_to_limit(rt: &HostRuntime) -> io::Result<()> {
     let mut block = [0; 512];
     block[0] = 1;
     block[420] = 4;
@@ -31,10 +32,11 @@ pub(crate) fn drive_to_limit() {
     let mut number: u32 = 0;
     while number < BLOCKS {
         put_number(&mut block, number);
-        pass = drive_next(pass, &block, false);
+        pass = drive_next(rt, pass, &block, false)?;
         number = number + 1;
         if pass.next_number() != number {
-            return;
+            return Ok(());
         }
     }
+    Ok(())
 }

@@ -1,13 +1,15 @@
 // Program `drive`: tick blocks from standard input, to its end or to the first refusal; a line for
 // each block to standard output, and the last line. What is read goes to `drive_batch`, and what it
-// gives is written: here is nothing else.
+// gives is written: here is nothing else. A failed read or write ends it.
 #![tactic(auto)]
+
 ghost use Rattle.std.specs.Prelude.{◌<◌};
 
 use drive_pass::Pass;
 use drive_text::drive_batch;
+use full_read::read_full;
 use last_text::write_last;
-use libc::{STDIN_FILENO, STDOUT_FILENO};
+use std::io;
 
 // Blocks are read 128 at a time; these many turns read one block more than a pass can drive.
 const TURNS: u32 = 131_073;
@@ -20,20 +22,20 @@ fn turns_left(turns: u32, over: bool) -> u32
     if over { 0 } else { turns - 1 }
 }
 
-fn main() {
-    let mut buf = io::large_buffer();
-    let mut out = io::large_buffer();
+fn main(rt: HostRuntime) -> io::Result<()> {
+    let mut buf = [0; 65536];
+    let mut out = [0; 65536];
     let mut pass = Pass::Empty;
     let mut turns = TURNS;
     while turns > 0 {
-        let n = io::read_full(STDIN_FILENO, &mut buf);
+        let n = read_full(&mut rt.stdin(), &mut buf)?;
         let w = drive_batch(pass, &buf[..n], &mut out);
         pass = w.pass;
         let len = w.len;
-        let wrote = io::write_all(STDOUT_FILENO, &out[..len]);
-        turns = turns_left(turns, w.refused | !wrote | (n < 65536));
+        rt.write_all(&out[..len])?;
+        turns = turns_left(turns, w.refused | (n < 65536));
     }
     let mut line = [0; 128];
     let len = write_last(pass, &mut line);
-    io::write_all(STDOUT_FILENO, &line[..len]);
+    rt.write_all(&line[..len])
 }

@@ -18,6 +18,7 @@ pub enum Operation {
     Difference,
 }
 
+#[tactic(auto, unfolding(crate::specs::Answer::answer_of))]
 pub(crate) fn answer(op: Operation, argument: u32) -> u32
     ensures { result ≡ answer_of op argument }
 {

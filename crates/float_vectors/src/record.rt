@@ -13,6 +13,7 @@ pub(crate) fn block() -> [u8; 8192]
 }
 
 // Whether the answer to the argument of record i is another than the one wanted.
+#[tactic(auto, unfolding(crate::specs::Record::is_mismatch))]
 pub(crate) fn is_mismatch(op: Operation, block: &[u8], i: usize) -> bool
     requires { i < length block.now / 8 }
     ensures { result ≡ is_mismatch op block.now i }
@@ -21,6 +22,7 @@ pub(crate) fn is_mismatch(op: Operation, block: &[u8], i: usize) -> bool
 }
 
 // How many of the block's records are mismatches.
+#[tactic(auto, unfolding(crate::specs::Record::mismatches_in))]
 pub(crate) fn mismatches(op: Operation, block: &[u8]) -> usize
     ensures { result ≡ mismatches_in op block.now (length block.now / 8) }
 {

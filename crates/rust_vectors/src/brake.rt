@@ -2,7 +2,7 @@
 ghost use Rattle.std.specs.Prelude.{◌≡◌};
 ghost use Rattle.rust_vectors.specs.Brake.{answer, step};
 
-use crate::memory::{UNANSWERED, put_four, with_memory4};
+use crate::remembered::{UNANSWERED, put_four, with_memory4};
 use active_brake::{ActiveBrakeController, BrakeAnswer, BrakeMade};
 use block_floats::vec4_at;
 use block_words::word_at;
@@ -10,6 +10,7 @@ use na::ZEROS_4;
 
 // A call has its kind and the wheel speeds, and then what is compared. The last kind is reset, whose
 // currents are wanted as 0.
+#[tactic(auto, unfolding(crate::specs::Brake::answer, na::specs::Vector::zeros4))]
 fn answer(b: ActiveBrakeController, call: &[u8]) -> BrakeAnswer
     ensures { result ≡ answer b call.now }
 {
@@ -23,6 +24,7 @@ fn answer(b: ActiveBrakeController, call: &[u8]) -> BrakeAnswer
 }
 
 // A header has k and the number of calls.
+#[tactic(auto, unfolding(crate::specs::Brake::step))]
 pub(crate) fn step(header: &[u8], call: &[u8], words: &mut [u32; 12])
     ensures { words.new ≡ step header.now call.now words.old }
 {

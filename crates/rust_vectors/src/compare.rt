@@ -3,9 +3,10 @@ ghost use Rattle.std.specs.Prelude.{◌≡◌};
 ghost use Rattle.rust_vectors.specs.Compare.{agrees_up_to};
 
 use block_words::word_at;
-use libc::STDOUT_FILENO;
+use std::io;
 
 // Whether the twelve words are those of the call from `at` on.
+#[tactic(auto, unfolding(crate::specs::Compare::agrees_up_to))]
 pub(crate) fn agrees(words: &[u32; 12], call: &[u8], at: u8) -> bool
     ensures { result ≡ agrees_up_to words.now call.now at 12 }
 {
@@ -19,8 +20,6 @@ pub(crate) fn agrees(words: &[u32; 12], call: &[u8], at: u8) -> bool
 }
 
 // Shows the call of this number of the list, which is a mismatch.
-pub(crate) fn show(number: u64) {
-    io::write_all(STDOUT_FILENO, b"  call ");
-    io::print_decimal(STDOUT_FILENO, number);
-    io::write_all(STDOUT_FILENO, b"\n");
+pub(crate) fn show(rt: &HostRuntime, number: u64) -> io::Result<()> {
+    println!(rt; "  call {number}")
 }

@@ -2,7 +2,7 @@
 ghost use Rattle.std.specs.Prelude.{◌≡◌};
 ghost use Rattle.rust_vectors.specs.Lag.{is_wanted, answer, step_made, step};
 
-use crate::memory::UNANSWERED;
+use crate::remembered::UNANSWERED;
 use block_floats::vec2_at;
 use block_words::word_at;
 use encoder_lag::{FirstOrderLagAnswer, new_from_horizon};
@@ -19,6 +19,7 @@ struct LagAnswer {
 
 // A header has k, dt in µs, the number of steps, dt and the least time constant in s, and the
 // number of calls. Whether the lag has these numbers.
+#[tactic(auto, unfolding(crate::specs::Lag::is_wanted))]
 fn is_wanted(l: FirstOrderLag, header: &[u8]) -> bool
     ensures { result ≡ is_wanted l header.now }
 {
@@ -30,6 +31,7 @@ fn is_wanted(l: FirstOrderLag, header: &[u8]) -> bool
 
 // A call has its kind and the input, and then what is compared. The last kind is reset. The output
 // is that of `invert`, and otherwise wanted as 0.
+#[tactic(auto, unfolding(crate::specs::Lag::answer, na::specs::Vector::zeros2))]
 fn answer(l: FirstOrderLag, call: &[u8]) -> LagAnswer
     ensures { result ≡ answer l call.now }
 {
@@ -50,6 +52,7 @@ fn answer(l: FirstOrderLag, call: &[u8]) -> LagAnswer
     }
 }
 
+#[tactic(auto, unfolding(crate::specs::Lag::step_made))]
 fn step_made(mut l: FirstOrderLag, call: &[u8], words: &mut [u32; 12])
     ensures { words.new ≡ step_made l call.now words.old }
 {
@@ -66,6 +69,7 @@ fn step_made(mut l: FirstOrderLag, call: &[u8], words: &mut [u32; 12])
 }
 
 // A lag of other numbers than the header's is none.
+#[tactic(auto, unfolding(crate::specs::Lag::step))]
 pub(crate) fn step(header: &[u8], call: &[u8], words: &mut [u32; 12])
     ensures { words.new ≡ step header.now call.now words.old }
 {

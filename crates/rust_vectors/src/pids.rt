@@ -2,7 +2,7 @@
 ghost use Rattle.std.specs.Prelude.{◌≡◌};
 ghost use Rattle.rust_vectors.specs.Pids.{gains_at, thresh_at, limits_at, axis_at, three_axes, four_axes, answer1, answer3, answer4, step1, step3, step4};
 
-use crate::memory::{put_axis, put_four, with_memory, with_memory4};
+use crate::remembered::{put_axis, put_four, with_memory, with_memory4};
 use block_floats::{float_at, vec3_at, vec4_at};
 use block_words::word_at;
 use na::{ZEROS_3, ZEROS_4};
@@ -13,6 +13,7 @@ use pid_three::{PidAnswer3, PidController3};
 
 // A header has the number of calls; the gains, axis by axis; whether there is a threshold, and one
 // for each axis; whether there are limits, the low ones and the high ones.
+#[tactic(auto, unfolding(crate::specs::Pids::gains_at))]
 fn gains_at(header: &[u8], i: u8) -> PidGains
     ensures { result ≡ gains_at header.now i }
 {
@@ -26,6 +27,7 @@ fn gains_at(header: &[u8], i: u8) -> PidGains
     }
 }
 
+#[tactic(auto, unfolding(crate::specs::Pids::thresh_at))]
 fn thresh_at(header: &[u8], n: u8, i: u8) -> AntiJitterThresh
     ensures { result ≡ thresh_at header.now n i }
 {
@@ -37,6 +39,7 @@ fn thresh_at(header: &[u8], n: u8, i: u8) -> AntiJitterThresh
     }
 }
 
+#[tactic(auto, unfolding(crate::specs::Pids::limits_at))]
 fn limits_at(header: &[u8], n: u8, i: u8) -> OutputLimits
     ensures { result ≡ limits_at header.now n i }
 {
@@ -52,6 +55,7 @@ fn limits_at(header: &[u8], n: u8, i: u8) -> OutputLimits
 }
 
 // Axis i of n, with nothing remembered.
+#[tactic(auto, unfolding(crate::specs::Pids::axis_at))]
 fn axis_at(header: &[u8], n: u8, i: u8) -> PidController
     ensures { result ≡ axis_at header.now n i }
 {
@@ -60,6 +64,7 @@ fn axis_at(header: &[u8], n: u8, i: u8) -> PidController
     PidController::new(gain, thresh, limits_at(header, n, i))
 }
 
+#[tactic(auto, unfolding(crate::specs::Pids::three_axes))]
 fn three_axes(header: &[u8], words: &[u32; 12]) -> PidController3
     ensures { result ≡ three_axes header.now words.now }
 {
@@ -70,6 +75,7 @@ fn three_axes(header: &[u8], words: &[u32; 12]) -> PidController3
     }
 }
 
+#[tactic(auto, unfolding(crate::specs::Pids::four_axes))]
 fn four_axes(header: &[u8]) -> PidController4
     ensures { result ≡ four_axes header.now }
 {
@@ -83,6 +89,7 @@ fn four_axes(header: &[u8]) -> PidController4
 
 // A call has its kind, setpoint, process variable, derivative and dt, and then what is compared. The
 // last kind is reset, whose output is wanted as 0.
+#[tactic(auto, unfolding(crate::specs::Pids::answer1))]
 fn answer1(c: PidController, call: &[u8]) -> PidAnswer
     ensures { result ≡ answer1 c call.now }
 {
@@ -99,6 +106,7 @@ fn answer1(c: PidController, call: &[u8]) -> PidAnswer
     }
 }
 
+#[tactic(auto, unfolding(crate::specs::Pids::answer3, na::specs::Vector::zeros3))]
 fn answer3(c: PidController3, call: &[u8]) -> PidAnswer3
     ensures { result ≡ answer3 c call.now }
 {
@@ -115,6 +123,7 @@ fn answer3(c: PidController3, call: &[u8]) -> PidAnswer3
     }
 }
 
+#[tactic(auto, unfolding(crate::specs::Pids::answer4, na::specs::Vector::zeros4))]
 fn answer4(c: PidController4, call: &[u8]) -> PidAnswer4
     ensures { result ≡ answer4 c call.now }
 {
@@ -131,6 +140,7 @@ fn answer4(c: PidController4, call: &[u8]) -> PidAnswer4
     }
 }
 
+#[tactic(auto, unfolding(crate::specs::Pids::step1))]
 pub(crate) fn step1(header: &[u8], call: &[u8], words: &mut [u32; 12])
     ensures { words.new ≡ step1 header.now call.now words.old }
 {
@@ -138,6 +148,7 @@ pub(crate) fn step1(header: &[u8], call: &[u8], words: &mut [u32; 12])
     put_axis(words, 1, 0, a.output, a.controller);
 }
 
+#[tactic(auto, unfolding(crate::specs::Pids::step3))]
 pub(crate) fn step3(header: &[u8], call: &[u8], words: &mut [u32; 12])
     ensures { words.new ≡ step3 header.now call.now words.old }
 {
@@ -147,6 +158,7 @@ pub(crate) fn step3(header: &[u8], call: &[u8], words: &mut [u32; 12])
     put_axis(words, 3, 2, a.output.z, a.controller.z);
 }
 
+#[tactic(auto, unfolding(crate::specs::Pids::step4))]
 pub(crate) fn step4(header: &[u8], call: &[u8], words: &mut [u32; 12])
     ensures { words.new ≡ step4 header.now call.now words.old }
 {

@@ -2,6 +2,7 @@
 // answers and leaves, to standard output. A refused block ends its pass, and the next block begins
 // another. oracle/README.md lists the words.
 #![tactic(auto)]
+
 mod answers; // answers.rt: the words of the four answers
 mod block; // block.rt: a block's words, and the controller after it
 mod calls; // calls.rt: the four calls
@@ -12,7 +13,8 @@ ghost use Rattle.std.specs.Prelude.{◌≤◌, ◌≡◌, length};
 
 use block::{REFUSED, run_block};
 use body_controller::{BodyController, NewAnswer};
-use libc::{STDIN_FILENO, STDOUT_FILENO};
+use full_read::read_full;
+use std::io;
 
 // As many blocks as 256 passes can drive.
 const TURNS: u64 = 4_294_967_296;
@@ -29,34 +31,37 @@ fn put_bytes(out: &mut [u8], words: &[u32; 96])
 }
 
 // The words of a block of n bytes are written if it has any; whether another block may follow.
-fn write(words: &[u32; 96], n: usize) -> bool {
+fn write(rt: &HostRuntime, words: &[u32; 96], n: usize) -> io::Result<bool> {
     if n == 0 {
-        return false;
+        return Ok(false);
     }
     let mut out = [0; 384];
     put_bytes(&mut out, words);
-    io::write_all(STDOUT_FILENO, &out) & (n == 512)
+    rt.write_all(&out)?;
+    Ok(n == 512)
 }
 
 // Reads and runs block after block; c stands for no pass until a block begins one.
-fn run(mut c: BodyController) {
+fn run(rt: &HostRuntime, mut c: BodyController) -> io::Result<()> {
     let mut driving = false;
     let mut turns = TURNS;
     while turns > 0 {
         let mut block = [0; 512];
         let mut words = [0; 96];
-        let n = io::read_full(STDIN_FILENO, &mut block);
+        let n = read_full(&mut rt.stdin(), &mut block)?;
         c = run_block(c, driving, &block[..n], &mut words);
         driving = words[1] != REFUSED;
-        if !write(&words, n) {
-            return;
+        if !write(rt, &words, n)? {
+            return Ok(());
         }
         turns = turns - 1;
     }
+    Ok(())
 }
 
-fn main() {
+fn main(rt: HostRuntime) -> io::Result<()> {
     if let NewAnswer::Made(c) = BodyController::new(1) {
-        run(c);
+        run(&rt, c)?;
     }
+    Ok(())
 }

@@ -11,6 +11,7 @@ use pid_four::PidController4;
 pub(crate) const UNANSWERED: u32 = 0xffff_ffff;
 
 // A controller that remembers the errors with these bits, the previous one and the integrated one.
+#[tactic(auto, unfolding(crate::specs::Memory::with_memory))]
 pub(crate) fn with_memory(c: PidController, prev: u32, integrated: u32) -> PidController
     ensures { result ≡ with_memory c prev integrated }
 {
@@ -21,6 +22,7 @@ pub(crate) fn with_memory(c: PidController, prev: u32, integrated: u32) -> PidCo
 }
 
 // Puts axis i of n: its output, its previous error and its integrated error, each n words apart.
+#[tactic(auto, unfolding(crate::specs::Memory::axis_put))]
 pub(crate) fn put_axis(words: &mut [u32; 12], n: usize, i: usize, output: f32, c: PidController)
     requires { n + n + i < 12 }
     ensures { words.new ≡ axis_put words.old n i output c }
@@ -31,6 +33,7 @@ pub(crate) fn put_axis(words: &mut [u32; 12], n: usize, i: usize, output: f32, c
 }
 
 // Four axes.
+#[tactic(auto, unfolding(crate::specs::Memory::with_memory4))]
 pub(crate) fn with_memory4(c: PidController4, words: &[u32; 12]) -> PidController4
     ensures { result ≡ with_memory4 c words.now }
 {
@@ -42,6 +45,7 @@ pub(crate) fn with_memory4(c: PidController4, words: &[u32; 12]) -> PidControlle
     }
 }
 
+#[tactic(auto, unfolding(crate::specs::Memory::four_put))]
 pub(crate) fn put_four(words: &mut [u32; 12], output: Vector4f, c: PidController4)
     ensures { words.new ≡ four_put words.old output c }
 {
