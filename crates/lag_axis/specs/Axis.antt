@@ -25,12 +25,12 @@ iterated (suc n) f x = f (iterated n f x)
 
 -- one turn of `invert`: (1 - a) * cmd + target
 abbrev pub lag_turn : Float → Float → Float → Float
-lag_turn oneMinusA target cmd = add binary32 (mul binary32 oneMinusA cmd) target
+lag_turn one_minus_a target cmd = add binary32 (mul binary32 one_minus_a cmd) target
 
 -- `invert`: n_steps turns from `desired`, with a = dt * K / T_eff and target = desired - state * (1 - dt / T_eff), both at T_eff(desired)
 unfoldable pub axis_invert : Axis → Float → Float
 axis_invert s desired =
-    let oneOver = one_over_t s desired in
-    let a = mul binary32 (mul binary32 s.dt s.k) oneOver in
-    let target = sub binary32 desired (mul binary32 s.state (sub binary32 one (mul binary32 s.dt oneOver))) in
+    let one_over = one_over_t s desired in
+    let a = mul binary32 (mul binary32 s.dt s.k) one_over in
+    let target = sub binary32 desired (mul binary32 s.state (sub binary32 one (mul binary32 s.dt one_over))) in
     iterated s.n_steps (lag_turn (sub binary32 one a) target) desired
