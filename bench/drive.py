@@ -4,13 +4,69 @@
     bench/drive.py FIRMWARE_SRC [ROUNDS]
 
 - the ratio: 400,000 blocks, firmware and drive by turns, the best of ROUNDS (15) each;
+- where drive's time goes, by two variants of it that are built without proof: one puts a byte for
+  each tick in the place of its line (what is saved is the text), one leaves the four calls out and
+  prints the block's own wheels (what is saved is the tick); the rest is reading and check;
 - growth: drive's time for a tick at 10^4, 10^5 and 10^6 ticks.
 """
 import os, shutil, subprocess, sys, tempfile, time
 from pathlib import Path
 
 TOP = Path(__file__).resolve().parent.parent
+sys.path.insert(0, str(TOP / "oracle"))
+from unproved import Kit
+
 TICKS = 400_000
+# file, old text, new text: both keep what the line needs alive.
+NO_TEXT = (
+    "driven_text/src/lib.rt",
+    "    let len = write_line(&mut buf, line);\n",
+    "    let len = one_byte(&mut buf, line);\n",
+    """
+use line_text::Ending;
+fn one_byte(buf: &mut [u8; 128], line: Line) -> usize {
+    match line {
+        Line::Tick(t) => {
+            let ending = t.ending;
+            match ending {
+                Ending::Wheels(v) => {
+                    buf[0] = if v.x + v.y + v.z + v.w > 0.0 { t.letter } else { b'0' };
+                    1
+                }
+                Ending::Failed(r) => write_line(buf, line),
+            }
+        }
+        Line::Refused(r) => write_line(buf, line),
+    }
+}
+""",
+)
+NO_TICK = (
+    "drive_blocks/src/lib.rt",
+    """            if refusal == 0 {
+                return drive_on(c, b);
+""",
+    """            if refusal % 10 == 0 {
+                return look_only(c, b);
+""",
+    """
+fn look_only(c: BodyController, b: TickBlock) -> Driven {
+    let sight = b.sight;
+    let wheels = sight.wheel_vel_meas;
+    let line = line_text::TickLine {
+        number: b.number,
+        letter: b'Q',
+        active: c.vision_active(),
+        recovering: c.tracking_divergence_recovery_active(),
+        ending: line_text::Ending::Wheels(wheels),
+    };
+    Driven {
+        line: line_text::Line::Tick(line),
+        pass: Pass::Driving(c),
+    }
+}
+""",
+)
 
 
 def seconds(command, blocks):
@@ -31,6 +87,21 @@ def best(commands, blocks, rounds):
     return [tuple(map(min, zip(*column))) for column in zip(*times)]
 
 
+def variant(kit, room, name, edit):
+    crates = room / "crates"
+    shutil.rmtree(crates, ignore_errors=True)
+    shutil.copytree(TOP / "crates", crates, ignore=shutil.ignore_patterns("out", "specs", "proofs", "must-fail", "data", "std*"))
+    if edit:
+        file, old, new, more = edit
+        source = (crates / file).read_text()
+        assert source.count(old) == 1, f"{file} has changed"
+        (crates / file).write_text(source.replace(old, new) + more)
+    said = kit.build("drive", crates, room / name)
+    if said:
+        sys.exit(f"{name} does not compile: {said}")
+    return [room / name]
+
+
 def main():
     if len(sys.argv) not in (2, 3):
         sys.exit(__doc__)
@@ -42,11 +113,12 @@ def main():
     target = Path(os.environ.get("CARGO_TARGET_DIR", TOP / "oracle/target")) / "bench"
     build = ["cargo", "build", "--quiet", "--release", "--offline", "--target-dir", target]
     subprocess.run(build + ["--manifest-path", TOP / "oracle/Cargo.toml"], check=True)
-    here = TOP / "crates/drive"
-    subprocess.run(["rt", "run"], cwd=here, check=True, stdin=subprocess.DEVNULL, stdout=subprocess.DEVNULL)
+    nothing = {"stdin": subprocess.DEVNULL, "stdout": subprocess.DEVNULL}
+    subprocess.run(["rt", "run"], cwd=TOP / "crates/drive", check=True, **nothing)
     room = Path(tempfile.mkdtemp())
     try:
-        drive = [here / "out/drive"]
+        kit = Kit(room, TOP)
+        drive = [TOP / "crates/drive/out/drive"]
         ticks = [target / "release/ticks"]
         for count in (10**4, 10**5, TICKS, 10**6):
             with open(room / str(count), "wb") as out:
@@ -58,6 +130,11 @@ def main():
         print(f"{TICKS} blocks, best of {rounds} by turns (load {load:.1f} on {os.cpu_count()} cores):")
         for what, i in (("clock", 0), ("processor", 1)):
             print(f"  {what}: firmware {firmware[i]:.3f} s, drive {ours[i]:.3f} s, ratio {firmware[i] / ours[i]:.2f}")
+
+        variants = [variant(kit, room, *v) for v in (("whole", None), ("no_text", NO_TEXT), ("no_tick", NO_TICK))]
+        whole, no_text, no_tick = (cpu * 1e9 / TICKS for _, cpu in best(variants, blocks, rounds))
+        text, tick = whole - no_text, whole - no_tick
+        print(f"ns of processor for a tick: {whole:.0f}; reading and check {whole - text - tick:.0f}, tick {tick:.0f}, text {text:.0f}")
 
         for count in (10**4, 10**5, 10**6):
             ((clock, cpu),) = best([drive], room / str(count), rounds)

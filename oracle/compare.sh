@@ -15,8 +15,8 @@ first_seed=${SEED:-1000}
 
 . "$here/programs.sh"
 build_firmware
-built drive
-built tick_words
+build_proved drive
+build_proved tick_words
 
 room=$(mktemp -d)
 trap 'rm -rf "$room"' EXIT

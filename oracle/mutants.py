@@ -65,28 +65,29 @@ def firmware(room):
     return sample
 
 
-def place(at, text, lines):
-    """Where the first difference is, of a byte's place in the output."""
-    if at is None:
-        return "no end"
+def place(got, wanted, text):
+    """Where the first difference is."""
+    at = next((i for i, (a, b) in enumerate(zip(got, wanted)) if a != b), min(len(got), len(wanted)))
     if text:
-        return f"line {lines[:at].count(10)}"
+        return f"line {wanted[:at].count(10)}"
     return f"tick {at // 384}, word {at % 384 // 4}"
 
 
-def cases(folder, sample, text):
-    """A folder of the passes and what the firmware answers."""
-    folder.mkdir()
-    for i, (_, blocks, words, lines) in enumerate(sample):
-        shutil.copyfile(blocks, folder / f"pass{i:03}")
-        (folder / f"pass{i:03}.stdout").write_bytes(lines if text else words)
-    return folder
+def seen_by(kit, program, sample, text):
+    """How many passes differ, and where the first one does."""
+    count, first = 0, ""
+    for k, blocks, words, lines in sample:
+        got, wanted = kit.run(program, blocks), lines if text else words
+        if got != wanted:
+            count += 1
+            first = first or f"k {k}, {place(got, wanted, text)}"
+    return count, first
 
 
 def planted(crates, name, edits):
     """A copy of the crates, with the mistake."""
     shutil.rmtree(crates, ignore_errors=True)
-    leave = shutil.ignore_patterns("specs", "proofs", "must-fail", "data", "stdin", "stdout", "out")
+    leave = shutil.ignore_patterns("out", "specs", "proofs", "must-fail", "data", "stdin", "stdout")
     shutil.copytree(TOP / "crates", crates, ignore=leave)
     for file, old, new, more in edits:
         source = (crates / file).read_text()
@@ -95,23 +96,13 @@ def planted(crates, name, edits):
         (crates / file).write_text(source.replace(old, new) + more)
 
 
-def seen_by(kit, room, program, folder, sample, text, name):
-    """How many passes differ, and where the first one does."""
-    found, said = kit.differing(program, room / "crates", folder)
-    if found is None:
-        sys.exit(f"{name}: does not compile\n" + "\n".join(said))
-    if not found:
-        return 0, ""
-    first = min(found)
-    k, _, _, lines = sample[int(first[4:])]
-    return len(found), f"k {k}, {place(found[first], text, lines)}"
-
-
 def tried(kit, room, program, name, sample, stored):
     """How many passes see the mistake, where the first does, and how many stored ones."""
-    text = program == "drive"
-    count, first = seen_by(kit, room, program, room / program, sample, text, name)
-    gate = None if text else seen_by(kit, room, program, room / "stored", stored, False, name)[0]
+    said = kit.build(program, room / "crates", room / "program")
+    if said:
+        sys.exit(f"{name}: does not compile\n" + "\n".join(said))
+    count, first = seen_by(kit, room / "program", sample, program == "drive")
+    gate = None if program == "drive" else seen_by(kit, room / "program", stored, False)[0]
     print(f"{name} ({program}): {count} of {len(sample)} passes; {first}; stored {gate}", flush=True)
     return count, first, gate
 
@@ -124,16 +115,11 @@ def main():
     room = Path(tempfile.mkdtemp())
     rows = []
     try:
-        kit = Kit(TOP)
-        shutil.copyfile(TOP / "crates.txt", room / "crates.txt")
-        subprocess.run(["git", "init", "--quiet", room], check=True)
+        kit = Kit(room, TOP)
         sample = firmware(room)
         words = TOP / "crates/tick_words"
         stored = [("stored", words / "stdin", (words / "stdout").read_bytes(), b"")]
-        cases(room / "drive", sample, True)
-        cases(room / "tick_words", sample, False)
-        cases(room / "stored", stored, False)
-        text_only = {"drive", *kit.uses("drive")} - {"tick_words", *kit.uses("tick_words")}
+        text_only = {"drive", *kit.own("drive")} - {"tick_words", *kit.own("tick_words")}
         planted(room / "crates", "as it is", [])
         for program in ("drive", "tick_words"):
             count, _, gate = tried(kit, room, program, "as it is", sample, stored)

@@ -7,8 +7,3 @@ build_firmware() {
     cargo build --quiet --release --offline --manifest-path "$top/oracle/Cargo.toml" \
         --target-dir "$(dirname "$rust")"
 }
-
-# Runs a proved program.
-proved() { # NAME
-    "$top/crates/$1/out/$1"
-}
