@@ -96,7 +96,7 @@ def variant(kit, room, name, edit):
         source = (crates / file).read_text()
         assert source.count(old) == 1, f"{file} has changed"
         (crates / file).write_text(source.replace(old, new) + more)
-    said = kit.build("drive", crates, room / name)
+    said = kit.build("drive", crates, room / name, checks=False)
     if said:
         sys.exit(f"{name} does not compile: {said}")
     return [room / name]
