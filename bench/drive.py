@@ -43,12 +43,8 @@ fn one_byte(buf: &mut [u8; 128], line: Line) -> usize {
 )
 NO_TICK = (
     "drive_blocks/src/lib.rt",
-    """            if refusal == 0 {
-                return drive_on(c, b);
-""",
-    """            if refusal % 10 == 0 {
-                return look_only(c, b);
-""",
+    "    Ok(drive_on(c, b))\n",
+    "    Ok(look_only(c, b))\n",
     """
 fn look_only(c: BodyController, b: TickBlock) -> Driven {
     let sight = b.sight;

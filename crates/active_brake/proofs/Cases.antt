@@ -1,21 +1,22 @@
 -- Document 01's starred cases of the brake's k, by computation. Assumes nothing.
 use mathlib.Core.Path.{◌≡◌, refl}
-use Rattle.active_brake.specs.declared.BrakeMade.TheVariants.{Made, Refused}
+use Rattle.std.specs.Prelude.{Ok, Err}
+use Rattle.refusal.specs.declared.Refusal.TheVariants as Why
 use Rattle.active_brake.specs.Brake.{new_brake, brake_of}
 
 -- k 0 and 65 are refused with 1, and 1 and 64 make a brake
-pub zero_refused : brake_of 0 ≡ Refused
+pub zero_refused : brake_of 0 ≡ Err Why.TickLength
 unfolding brake_of
 zero_refused = refl
 
-pub sixty_five_refused : brake_of 65 ≡ Refused
+pub sixty_five_refused : brake_of 65 ≡ Err Why.TickLength
 unfolding brake_of
 sixty_five_refused = refl
 
-pub one_made : brake_of 1 ≡ Made (new_brake 1)
+pub one_made : brake_of 1 ≡ Ok (new_brake 1)
 unfolding brake_of
 one_made = refl
 
-pub sixty_four_made : brake_of 64 ≡ Made (new_brake 64)
+pub sixty_four_made : brake_of 64 ≡ Ok (new_brake 64)
 unfolding brake_of
 sixty_four_made = refl

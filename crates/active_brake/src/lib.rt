@@ -2,24 +2,20 @@
 #![tactic(auto)]
 
 ghost use Rattle.std.specs.Prelude.{◌≡◌};
-ghost use Rattle.active_brake.specs.Brake.{brake_of, refusal_number, refusal_of, new_brake, computed, reset_brake};
+ghost use Rattle.refusal.specs.Refusal.{number_of};
+ghost use Rattle.tick_length.specs.TickLength.{refusal_of};
+ghost use Rattle.active_brake.specs.Brake.{brake_of, new_brake, computed, reset_brake};
 
 use brake_wheel::wheel_controller;
-use na::{Vector4f, ZEROS_4};
-use pid_four::PidController4;
-use tick_length::{TickLength, TickLengthAnswer};
+use na::Vector4f;
+use pid_axes::PidAxes;
+use refusal::Refusal;
+use tick_length::TickLength;
 
 #[derive(Clone, Copy)]
 pub struct ActiveBrakeController {
-    pub pid: PidController4,
+    pub pid: PidAxes<4>,
     pub tick: TickLength,
-}
-
-// A brake, or document 01's refusal 1: k is not a tick length's.
-#[derive(Clone, Copy)]
-pub enum BrakeMade {
-    Made(ActiveBrakeController),
-    Refused,
 }
 
 // The currents in A, one for each wheel, beside the brake as the call leaves it.
@@ -34,41 +30,33 @@ pub struct BrakeAnswer {
 fn brake_of(tick: TickLength) -> ActiveBrakeController
     ensures { result ≡ new_brake tick.k }
 {
-    let wheel = wheel_controller();
-    let pid = PidController4 {
-        x: wheel,
-        y: wheel,
-        z: wheel,
-        w: wheel,
-    };
-    ActiveBrakeController { pid, tick }
+    let axes = [wheel_controller(); 4];
+    ActiveBrakeController {
+        pid: PidAxes { axes },
+        tick,
+    }
 }
 
 impl ActiveBrakeController {
-    #[tactic(auto, using(tick_length::proofs::Answer::made_is, tick_length::proofs::Answer::refused_is), unfolding(crate::specs::Brake::brake_of))]
-    pub fn new(k: u32) -> BrakeMade
-        ensures { (result ≡ brake_of k) × (refusal_number result ≡ refusal_of k) }
+    // Refusal 1 where k is not from 1 to 64.
+    #[tactic(auto, unfolding(crate::specs::Brake::brake_of))]
+    pub fn new(k: u32) -> Result<ActiveBrakeController, Refusal>
+        ensures { (result ≡ brake_of k) × (number_of result ≡ refusal_of k) }
     {
-        let answer = TickLength::new(k);
-        match answer {
-            TickLengthAnswer::Made(tick) => BrakeMade::Made(brake_of(tick)),
-            TickLengthAnswer::Refused => BrakeMade::Refused,
-        }
+        Ok(brake_of(TickLength::new(k)?))
     }
 
     // The braking currents for the measured wheel speeds in rad/s.
-    #[tactic(auto, unfolding(crate::specs::Brake::computed, na::specs::Vector::zeros4))]
+    #[tactic(auto, unfolding(crate::specs::Brake::computed))]
     pub fn compute(mut self, wheel_vel_meas: Vector4f) -> BrakeAnswer
         ensures { result ≡ computed self wheel_vel_meas }
     {
         let answer = self
             .pid
-            .calculate(ZEROS_4, wheel_vel_meas, self.tick.seconds());
-        let currents = answer.output;
-        let pid = answer.controller;
-        self.pid = pid;
+            .calculate([0.0; 4], wheel_vel_meas.into(), self.tick.seconds());
+        self.pid = answer.controller;
         BrakeAnswer {
-            currents,
+            currents: answer.output.into(),
             controller: self,
         }
     }

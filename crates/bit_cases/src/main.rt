@@ -12,57 +12,39 @@ use std::io;
 
 // A refusal as a hexadecimal digit.
 fn digit(refusal: u8) -> u8 {
-    if refusal < 10 {
-        48 + refusal
-    } else if refusal < 16 {
-        87 + refusal
-    } else {
-        b'?'
-    }
+    b"0123456789abcdef"
+        .get(refusal as usize)
+        .copied()
+        .unwrap_or(b'?')
 }
 
-// A line's glyph: a dot for a tick, or the refusal.
-fn glyph_of(line: Line) -> u8 {
-    match line {
+// How an empty pass answers a block: a dot for a tick, or the refusal.
+fn glyph(block: &[u8]) -> u8 {
+    match drive(Pass::Empty, block).line {
         Line::Tick(_) => b'.',
         Line::Refused(r) => digit(r.refusal),
     }
 }
 
-// How an empty pass answers a block.
-fn glyph(block: &[u8]) -> u8 {
-    let driven = drive(Pass::Empty, block);
-    let line = driven.line;
-    glyph_of(line)
-}
-
-// Puts a byte, where there is its place.
-fn put_byte(bytes: &mut [u8], at: usize, byte: u8) {
-    if at < bytes.len() {
-        bytes[at] = byte;
-    }
-}
-
-// Puts word i of a block, lowest byte first.
-fn put_word(block: &mut [u8], i: u8, word: u32) {
+// Puts word i of a block, where there is its place.
+fn put_word(block: &mut [u8; 512], i: u8, word: u32) {
     let at = i as usize * 4;
-    put_byte(block, at, (word % 256) as u8);
-    put_byte(block, at + 1, (word / 0x100 % 256) as u8);
-    put_byte(block, at + 2, (word / 0x1_0000 % 256) as u8);
-    put_byte(block, at + 3, (word / 0x100_0000 % 256) as u8);
+    if let Some(bytes) = block.get_mut(at..at + 4) {
+        bytes.copy_from_slice(&word.to_le_bytes());
+    }
 }
 
 // The check where a word changed from old to new: made to fit, or as it was.
 fn check_after(check: u32, old: u32, new: u32, fresh: bool) -> u32 {
     if fresh {
-        std::num::wrapping_sub_u32(std::num::wrapping_add_u32(check, new), old)
+        check.wrapping_add(new).wrapping_sub(old)
     } else {
         check
     }
 }
 
 // The glyph with one bit of a word turned. The block is left as it was.
-fn turned(block: &mut [u8], word: u8, bit: u8, fresh: bool) -> u8 {
+fn turned(block: &mut [u8; 512], word: u8, bit: u8, fresh: bool) -> u8 {
     let old = word_at(block, word as usize);
     let check = word_at(block, 127);
     let new = old ^ (1 << (bit % 32));
@@ -75,34 +57,27 @@ fn turned(block: &mut [u8], word: u8, bit: u8, fresh: bool) -> u8 {
 }
 
 // A word's line: a glyph for each of its bits, the lowest first.
-fn print_word(rt: &HostRuntime, block: &mut [u8], word: u8, fresh: bool) -> io::Result<()> {
+fn print_word(rt: &HostRuntime, block: &mut [u8; 512], word: u8, fresh: bool) -> io::Result<()> {
     let mut line = [b'\n'; 33];
-    let mut bit: u8 = 0;
-    while bit < 32 {
-        let g = turned(block, word, bit, fresh);
-        put_byte(&mut line, bit as usize, g);
-        bit = bit + 1;
+    for bit in 0..32 {
+        line[bit as usize] = turned(block, word, bit, fresh);
     }
     rt.write_all(&line)
 }
 
 // A line for each of the first words.
-fn print_words(rt: &HostRuntime, block: &mut [u8], words: u8, fresh: bool) -> io::Result<()> {
-    let mut word: u8 = 0;
-    while word < words {
+fn print_words(rt: &HostRuntime, block: &mut [u8; 512], words: u8, fresh: bool) -> io::Result<()> {
+    for word in 0..words {
         print_word(rt, block, word, fresh)?;
-        word = word + 1;
     }
     Ok(())
 }
 
 // One line: a glyph for each length.
-fn print_lengths(rt: &HostRuntime, bytes: &[u8]) -> io::Result<()> {
+fn print_lengths(rt: &HostRuntime, bytes: &[u8; 1024]) -> io::Result<()> {
     let mut line = [b'\n'; 1026];
-    let mut n: usize = 0;
-    while n <= bytes.len() {
-        put_byte(&mut line, n, glyph(&bytes[..n]));
-        n = n + 1;
+    for n in 0..=1024 {
+        line[n] = glyph(&bytes[..n]);
     }
     rt.write_all(&line)
 }

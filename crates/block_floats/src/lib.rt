@@ -1,12 +1,11 @@
-// The floats of a block, one by one and by vectors.
+// The floats of a block, one by one and by arrays.
 #![tactic(auto)]
 
 ghost use Rattle.std.specs.Prelude.{◌≡◌};
-ghost use Rattle.block_floats.specs.Floats.{float_at, vector2_at, vector3_at, vector4_at};
+ghost use Rattle.block_floats.specs.Floats.{float_at, floats_at};
 
 use block_words::word_at;
 use float_bits::from_bits;
-use na::{Vector2f, Vector3f, Vector4f};
 
 // The float whose bits are word i.
 #[tactic(auto, unfolding(crate::specs::Floats::float_at))]
@@ -16,39 +15,15 @@ pub fn float_at(block: &[u8], i: usize) -> f32
     from_bits(word_at(block, i))
 }
 
-// The vector whose entries are the words from `at` on, a number of 8 bits, so that no sum overflows.
-#[tactic(auto, unfolding(crate::specs::Floats::vector2_at))]
-pub fn vec2_at(block: &[u8], at: u8) -> Vector2f
-    ensures { result ≡ vector2_at block.now at }
+// The floats of the words from `at` on, a number of 8 bits, so that no sum overflows. A loop: with
+// `from_fn` the reading of a tick's inputs takes twice as long.
+#[tactic(auto, unfolding(crate::specs::Floats::floats_at))]
+pub fn floats_at<const N: usize>(block: &[u8], at: u8) -> [f32; N]
+    ensures { result ≡ floats_at block.now at N }
 {
-    let at = at as usize;
-    Vector2f {
-        x: float_at(block, at),
-        y: float_at(block, at + 1),
+    let mut floats = [0.0; N];
+    for (i, x) in floats.iter_mut().enumerate() {
+        *x = float_at(block, at as usize + i);
     }
-}
-
-#[tactic(auto, unfolding(crate::specs::Floats::vector3_at))]
-pub fn vec3_at(block: &[u8], at: u8) -> Vector3f
-    ensures { result ≡ vector3_at block.now at }
-{
-    let at = at as usize;
-    Vector3f {
-        x: float_at(block, at),
-        y: float_at(block, at + 1),
-        z: float_at(block, at + 2),
-    }
-}
-
-#[tactic(auto, unfolding(crate::specs::Floats::vector4_at))]
-pub fn vec4_at(block: &[u8], at: u8) -> Vector4f
-    ensures { result ≡ vector4_at block.now at }
-{
-    let at = at as usize;
-    Vector4f {
-        x: float_at(block, at),
-        y: float_at(block, at + 1),
-        z: float_at(block, at + 2),
-        w: float_at(block, at + 3),
-    }
+    floats
 }

@@ -1,29 +1,28 @@
-// The order of a pass' blocks, a term of document 01: refusals 9 and 10, and where a batch ends.
+// The order of a pass' blocks, a term of document 01: refusals 9 and 10.
 #![tactic(auto)]
 
 ghost use Rattle.std.specs.Prelude.{◌≡◌};
-ghost use Rattle.block_order.specs.Order.{order_of, goes_on};
+ghost use Rattle.refusal.specs.Refusal.{number_of};
+ghost use Rattle.block_order.specs.Order.{order_tested, order_of};
 
+use refusal::Refusal;
 use tick_length::TickLength;
 
 // A block's tick length and number beside the drive's own length and the next tick's number: 9, then
-// 10; 0 for a block that comes in order.
-pub fn order_refusal(tick: TickLength, own: TickLength, number: u32, next: u32) -> u8
-    ensures { result ≡ order_of tick own number next }
+// 10.
+pub fn order_tested(
+    tick: TickLength,
+    own: TickLength,
+    number: u32,
+    next: u32,
+) -> Result<(), Refusal>
+    ensures { (result ≡ order_tested tick own number next) × (number_of result ≡ order_of tick own number next) }
 {
-    if tick.k == own.k {
-        if number == next {
-            return 0;
-        }
-        return 10;
+    if tick != own {
+        return Err(Refusal::OtherTickLength);
     }
-    return 9;
-}
-
-// Whether one more block of a batch is driven, after i of them: its line has room, none was refused, and bytes are left.
-#[tactic(auto, unfolding(crate::specs::Order::goes_on))]
-pub fn goes_on(i: usize, room: usize, refused: bool, start: usize, len: usize) -> bool
-    ensures { result ≡ goes_on i room refused start len }
-{
-    (i < room) & !refused & (start < len)
+    if number != next {
+        return Err(Refusal::Order);
+    }
+    Ok(())
 }

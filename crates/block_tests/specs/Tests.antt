@@ -1,16 +1,13 @@
--- The tests of a tick block and document 01's numbers for their refusals, 'When a call is turned away'. Assumes nothing.
-use Rattle.std.specs.Prelude.{ℕ, Bool, cond, List, eqb, length}
-use Rattle.tick_length.specs.declared.TickLengthAnswer.{TickLengthAnswer}
-use Rattle.tick_length.specs.declared.TickLengthAnswer.TheVariants as Length
+-- The tests of a tick block, document 01, 'When a call is turned away'. Assumes nothing.
+use Rattle.std.specs.Prelude.{ℕ, Bool, cond, List, eqb, length, Result, Ok, Err}
+use Rattle.refusal.specs.declared.Refusal.{Refusal}
+use Rattle.refusal.specs.declared.Refusal.TheVariants as Why
+use Rattle.tick_length.specs.declared.TickLength.{TickLength}
 use Rattle.tick_length.specs.TickLength.{tick_length_of}
 use Rattle.cmd.specs.Command.{is_mode}
 use Rattle.block_words.specs.Word.{word_at}
 use Rattle.block_check.specs.Layout as at
 use Rattle.block_check.specs.Check.{check_of, spare_zero}
-use Rattle.block_tests.specs.declared.BlockRefusal.{BlockRefusal}
-use Rattle.block_tests.specs.declared.BlockRefusal.TheVariants as Why
-use Rattle.block_tests.specs.declared.Tested.{Tested}
-use Rattle.block_tests.specs.declared.Tested.TheVariants.{Passed, Refused}
 
 -- ---- what is tested
 
@@ -29,28 +26,18 @@ is_version s = eqb (word_at s at.version) 1
 -- ---- the tests, in their order
 
 -- by its tick length, then by its mode
-abbrev pub tested_with : TickLengthAnswer → List ℕ → Tested
-tested_with (Length.Made t) s = cond (is_mode (word_at s at.mode)) (Passed t) (Refused Why.Mode)
-tested_with Length.Refused s = Refused Why.TickLength
+abbrev pub tested_with : Result TickLength Refusal → List ℕ → Result TickLength Refusal
+tested_with (Ok t) s = cond (is_mode (word_at s at.mode)) (Ok t) (Err Why.Mode)
+tested_with (Err r) s = Err r
 
 -- 1, then 4
-unfoldable pub inputs_tested : List ℕ → Tested
+unfoldable pub inputs_tested : List ℕ → Result TickLength Refusal
 inputs_tested s = tested_with (tick_length_of (word_at s at.tick_length)) s
 
 -- 7, then 8, then the rest
-unfoldable pub format_tested : List ℕ → Tested
-format_tested s = cond (is_version s) (cond (spare_zero s) (inputs_tested s) (Refused Why.Spare)) (Refused Why.Version)
+unfoldable pub format_tested : List ℕ → Result TickLength Refusal
+format_tested s = cond (is_version s) (cond (spare_zero s) (inputs_tested s) (Err Why.Spare)) (Err Why.Version)
 
 -- 5, then 6, then the rest
-unfoldable pub block_tested : List ℕ → Tested
-block_tested s = cond (is_whole s) (cond (checks s) (format_tested s) (Refused Why.Check)) (Refused Why.Length)
-
--- ---- document 01's numbers
-
-abbrev pub refusal_number : BlockRefusal → ℕ
-refusal_number Why.TickLength = 1
-refusal_number Why.Mode = 4
-refusal_number Why.Length = 5
-refusal_number Why.Check = 6
-refusal_number Why.Version = 7
-refusal_number Why.Spare = 8
+unfoldable pub block_tested : List ℕ → Result TickLength Refusal
+block_tested s = cond (is_whole s) (cond (checks s) (format_tested s) (Err Why.Check)) (Err Why.Length)

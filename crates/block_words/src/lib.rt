@@ -1,25 +1,15 @@
 // The words of a block: 32 bits each, lowest byte first.
 #![tactic(auto)]
 
-ghost use Rattle.std.specs.Prelude.{◌≡◌, ◌+◌, ◌≤◌, ◌<◌, length};
+ghost use Rattle.std.specs.Prelude.{◌≡◌, ◌+◌, ◌≤◌, length};
 ghost use Rattle.block_words.specs.Word.{word_from, word_at};
-
-// A byte as a number of 32 bits.
-fn wide(byte: u8) -> u32
-    ensures { (result ≡ byte) × (result < 256) }
-{
-    byte as u32
-}
 
 // The 32 bits that start at byte `at`.
 fn word_from(block: &[u8], at: usize) -> u32
     requires { at + 4 ≤ length block.now }
     ensures { result ≡ word_from block.now at }
 {
-    wide(block[at])
-        + wide(block[at + 1]) * 0x100
-        + wide(block[at + 2]) * 0x1_0000
-        + wide(block[at + 3]) * 0x100_0000
+    u32::from_le_bytes([block[at], block[at + 1], block[at + 2], block[at + 3]])
 }
 
 // Word i of the block, and 0 past its last whole word.

@@ -1,18 +1,18 @@
--- The turn, a term of document 01: which of the tick's four calls is next, by its place in the tick. Assumes nothing.
-use Rattle.std.specs.Prelude.{ℕ, Bool, not, ◌==◌, nat_lt}
+-- The turn, a term of document 01: which of the tick's four calls is next. Assumes nothing.
+use Rattle.std.specs.Prelude.{Bool, true, false}
+use Rattle.body_controller.specs.declared.Turn.{Turn}
+use Rattle.body_controller.specs.declared.Turn.TheVariants as Turns
 
 -- it is sight's turn
-abbrev pub is_sight : ℕ → Bool
-is_sight turn = turn == 0
+abbrev pub is_sight : Turn → Bool
+is_sight Turns.Sight = true
+is_sight Turns.Plan = false
+is_sight (Turns.Steer p) = false
+is_sight (Turns.Finish s) = false
 
 -- it is plan's turn
-abbrev pub is_plan : ℕ → Bool
-is_plan turn = turn == 1
-
--- it is steer's turn
-abbrev pub is_steer : ℕ → Bool
-is_steer turn = turn == 2
-
--- it is finish's turn: 3. No call leads beyond it; what lies there counts as finish's, so that every number is some call's turn
-abbrev pub is_finish : ℕ → Bool
-is_finish turn = not (nat_lt turn 3)
+abbrev pub is_plan : Turn → Bool
+is_plan Turns.Sight = false
+is_plan Turns.Plan = true
+is_plan (Turns.Steer p) = false
+is_plan (Turns.Finish s) = false

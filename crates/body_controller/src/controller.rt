@@ -1,28 +1,18 @@
 // The controller, made by `new`, and its parts for readers. The calls are in the modules of their names.
 ghost use Rattle.std.specs.Prelude.{◌≡◌};
+ghost use Rattle.refusal.specs.Refusal.{number_of};
 ghost use Rattle.tick_length.specs.TickLength.{refusal_of};
 ghost use Rattle.tick.specs.Outputs.{no_outputs};
 ghost use Rattle.vision.specs.Vision.{active};
 ghost use Rattle.divergence.specs.Divergence.{is_recovering};
-ghost use Rattle.body_controller.specs.Controller.{started, new_of, new_number, reset_of};
+ghost use Rattle.body_controller.specs.Controller.{started, new_of, reset_of, refused};
 
-use crate::{BodyController, Choices, NewAnswer};
-use call_answers::Steered;
-use cmd::ManeuverCommand;
-use context::{ControlContext, Planned};
-use na::{Vector6f, ZEROS_3};
-use plan_answer::PlanAnswer;
-use tick::{Counts, NO_COUNTS, NO_OUTPUTS, Outputs, Refusal};
-use tick_length::{TickLength, TickLengthAnswer};
-
-// The turn, a term of document 01, by the calls' order in a tick.
-pub const SIGHT: u8 = 0;
-
-pub const PLAN: u8 = 1;
-
-pub const STEER: u8 = 2;
-
-pub const FINISH: u8 = 3;
+use crate::{BodyController, Called, Choices, Turn};
+use context::ControlContext;
+use na::ZEROS_6;
+use refusal::Refusal;
+use tick::{Counts, NO_COUNTS, NO_OUTPUTS, Outputs};
+use tick_length::TickLength;
 
 #[tactic(auto, unfolding(tick::specs::Outputs::no_outputs, na::specs::Vector::zeros3, na::specs::Vector::zeros4))]
 fn no_outputs() -> Outputs
@@ -37,51 +27,29 @@ impl BodyController {
     fn start(choices: Choices) -> BodyController
         ensures { result ≡ started choices }
     {
-        let zeros = ZEROS_3;
         BodyController {
             choices,
-            context: ControlContext::new(Vector6f {
-                pose: zeros,
-                twist: zeros,
-            }),
-            turn: SIGHT,
-            planned: Planned {
-                answer: PlanAnswer::Hold,
-                cmd: ManeuverCommand::Off,
-            },
-            steered: Steered {
-                body_twist: zeros,
-                body_accel: zeros,
-                vel_clamped: false,
-                cos: 0.0,
-                sin: 0.0,
-            },
+            context: ControlContext::new(ZEROS_6),
+            turn: Turn::Sight,
             outputs: no_outputs(),
             ticks: 0,
             counts: NO_COUNTS,
         }
     }
 
+    // Refusal 1 where k is no tick length's.
     #[tactic(auto, unfolding(crate::specs::Controller::new_of))]
-    pub fn new(k: u32) -> NewAnswer
-        ensures { (result ≡ new_of k) × (new_number result ≡ refusal_of k) }
+    pub fn new(k: u32) -> Result<BodyController, Refusal>
+        ensures { (result ≡ new_of k) × (number_of result ≡ refusal_of k) }
     {
-        let answer = TickLength::new(k);
-        match answer {
-            TickLengthAnswer::Made(tick) => {
-                return NewAnswer::Made(BodyController::start(Choices { tick }));
-            }
-            TickLengthAnswer::Refused => {
-                return NewAnswer::Refused(Refusal::TickLength);
-            }
-        }
+        let tick = TickLength::new(k)?;
+        Ok(BodyController::start(Choices { tick }))
     }
 
     pub fn tick_length(self) -> TickLength
         ensures { result ≡ self.choices.tick }
     {
-        let choices = self.choices;
-        choices.tick
+        self.choices.tick
     }
 
     // How many sight calls were accepted: the number of the next tick.
@@ -104,12 +72,9 @@ impl BodyController {
     }
 
     pub fn tracking_divergence_recovery_active(self) -> bool
-        ensures { result ≡ is_recovering self.context.divergence.state }
+        ensures { result ≡ is_recovering self.context.divergence }
     {
-        let context = self.context;
-        let divergence = context.divergence;
-        let state = divergence.state;
-        state.recovering()
+        self.context.divergence.recovering()
     }
 
     pub fn context(self) -> ControlContext
@@ -125,14 +90,26 @@ impl BodyController {
     }
 
     // The reset call, accepted at any turn. Counts, tick number and estimate stay.
-    #[tactic(auto, unfolding(crate::specs::Controller::reset_of))]
-    pub fn reset(mut self) -> BodyController
+    #[tactic(auto, unfolding(crate::specs::Controller::reset_of, crate::specs::Controller::started))]
+    pub fn reset(self) -> BodyController
         ensures { result ≡ reset_of self }
     {
-        let context = self.context;
-        self.context = ControlContext::new(context.state_estimate);
-        self.turn = SIGHT;
-        self.outputs = no_outputs();
-        self
+        BodyController {
+            context: ControlContext::new(self.context.state_estimate),
+            ticks: self.ticks,
+            counts: self.counts,
+            ..BodyController::start(self.choices)
+        }
+    }
+
+    // A call turned away, whatever it would have answered.
+    #[tactic(auto, unfolding(crate::specs::Controller::refused))]
+    pub(crate) fn refuse<A>(self, refusal: Refusal) -> Called<A>
+        ensures { result ≡ refused refusal self }
+    {
+        Called {
+            answer: Err(refusal),
+            controller: self,
+        }
     }
 }

@@ -5,7 +5,7 @@ ghost use Rattle.std.specs.Prelude.{◌≡◌};
 ghost use Rattle.brake_wheel.specs.Wheel.{wheel_controller};
 
 use params::{BRAKE_ANTI_JITTER_RADS, BRAKE_KP, BRAKE_MAX_CURRENT_A, PidGains};
-use pid::{AntiJitterThresh, OutputLimits, PidController};
+use pid::PidController;
 
 // Ki and Kd are zero, as in the Rust.
 #[tactic(auto, unfolding(crate::specs::Wheel::wheel_controller))]
@@ -19,7 +19,6 @@ pub fn wheel_controller() -> PidController
         ki_err_min: 0.0,
         ki_err_max: 0.0,
     };
-    let thresh = AntiJitterThresh::Below(BRAKE_ANTI_JITTER_RADS);
-    let limits = OutputLimits::Between(-BRAKE_MAX_CURRENT_A, BRAKE_MAX_CURRENT_A);
-    PidController::new(gain, thresh, limits)
+    let limits = (-BRAKE_MAX_CURRENT_A, BRAKE_MAX_CURRENT_A);
+    PidController::new(gain, Some(BRAKE_ANTI_JITTER_RADS), Some(limits))
 }

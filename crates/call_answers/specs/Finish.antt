@@ -8,7 +8,7 @@ use Rattle.call_answers.specs.declared.Finished.{Finished}
 
 -- what finish works out of steer's setpoints
 abbrev pub finished_from : Steered → FinishInput → FinishOutputs
-finished_from s i = finish_outputs s.cos s.sin i.i_inv i.twist2wheel i.accel2wheel i.friction_force_local s.body_twist s.body_accel
+finished_from s i = finish_outputs s.heading i s.setpoints
 
 -- 'answers the outputs, the two clamp marks and the disabled mark'
 unfoldable pub finished_by : Steered → FinishInput → Bool → Finished
@@ -16,8 +16,8 @@ finished_by s i disabled =
     let f = finished_from s i in
     record {
       outputs = record {
-        body_twist_out = s.body_twist;
-        body_accel_out = s.body_accel;
+        body_twist_out = s.setpoints.body_twist;
+        body_accel_out = s.setpoints.body_accel;
         body_accel_out_fric_comp = f.body_accel_out_fric_comp;
         wheel_vel_out = f.wheel_vel_out;
         wheel_torque_out = f.wheel_torque_out;

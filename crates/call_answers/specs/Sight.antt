@@ -11,5 +11,5 @@ sight_answer action i = record {
   action = action;
   measurement = record { vision_pose = i.vision_pose_meas; wheel_vel = i.wheel_vel_meas; gyro_theta = i.imu_gyro_theta_meas };
   effective_vision_update = takes action;
-  state_prediction = predicted_after action i.predicted_state i.vision_pose_meas i.wheel_vel_meas i.imu_gyro_theta_meas i.wheel2twist;
+  state_prediction = predicted_after action i;
 }

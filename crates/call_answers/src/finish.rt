@@ -12,28 +12,14 @@ use wheels::finish_outputs;
 pub fn finish_by(s: Steered, i: FinishInput, wheels_disabled: bool) -> Finished
     ensures { result ≡ finished_by s i wheels_disabled }
 {
-    let body_twist = s.body_twist;
-    let body_accel = s.body_accel;
-    let f = finish_outputs(
-        s.cos,
-        s.sin,
-        i.i_inv,
-        i.twist2wheel,
-        i.accel2wheel,
-        i.friction_force_local,
-        body_twist,
-        body_accel,
-    );
-    let fric_comp = f.body_accel_out_fric_comp;
-    let wheel_vel = f.wheel_vel_out;
-    let wheel_torque = f.wheel_torque_out;
+    let f = finish_outputs(s.heading, i, s.setpoints);
     Finished {
         outputs: Outputs {
-            body_twist_out: body_twist,
-            body_accel_out: body_accel,
-            body_accel_out_fric_comp: fric_comp,
-            wheel_vel_out: wheel_vel,
-            wheel_torque_out: wheel_torque,
+            body_twist_out: s.setpoints.body_twist,
+            body_accel_out: s.setpoints.body_accel,
+            body_accel_out_fric_comp: f.body_accel_out_fric_comp,
+            wheel_vel_out: f.wheel_vel_out,
+            wheel_torque_out: f.wheel_torque_out,
         },
         vel_clamped: s.vel_clamped,
         accel_clamped: f.accel_clamped,

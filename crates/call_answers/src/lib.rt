@@ -7,7 +7,9 @@ pub mod sight; // sight.rt: measurement and predicted state
 pub mod steer; // steer.rt: the twist's limits and the friction twist
 
 use gate_action::GateAction;
+use matrices::rotation::Rotation;
 use na::{Vector3f, Vector4f, Vector6f};
+use setpoints::ManeuverSetpoints;
 use tick::Outputs;
 
 // The estimator's eight numbers.
@@ -28,14 +30,12 @@ pub struct Sighted {
     pub state_prediction: Vector6f,
 }
 
-// What steer leaves to finish: limited setpoints, and the cosine and sine of the estimate's heading.
+// What steer leaves to finish: limited setpoints, and the rotation by the estimate's heading.
 #[derive(Clone, Copy)]
 pub struct Steered {
-    pub body_twist: Vector3f,
-    pub body_accel: Vector3f,
+    pub setpoints: ManeuverSetpoints,
     pub vel_clamped: bool,
-    pub cos: f32,
-    pub sin: f32,
+    pub heading: Rotation,
 }
 
 // What steer leaves to finish, beside its answer.

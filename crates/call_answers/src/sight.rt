@@ -11,24 +11,14 @@ use prediction::predict_after;
 pub fn sight_answer(action: GateAction, i: SightInput) -> Sighted
     ensures { result ≡ sight_answer action i }
 {
-    let vision_pose = i.vision_pose_meas;
-    let wheel_vel = i.wheel_vel_meas;
-    let measurement = Measurement {
-        vision_pose,
-        wheel_vel,
-        gyro_theta: i.imu_gyro_theta_meas,
-    };
     Sighted {
         action,
-        measurement,
+        measurement: Measurement {
+            vision_pose: i.vision_pose_meas,
+            wheel_vel: i.wheel_vel_meas,
+            gyro_theta: i.imu_gyro_theta_meas,
+        },
         effective_vision_update: action.takes(),
-        state_prediction: predict_after(
-            action,
-            i.predicted_state,
-            vision_pose,
-            wheel_vel,
-            i.imu_gyro_theta_meas,
-            i.wheel2twist,
-        ),
+        state_prediction: predict_after(action, i),
     }
 }

@@ -5,31 +5,27 @@ ghost use Rattle.call_answers.specs.Steer.{limited};
 use crate::{Limited, Steered};
 use friction::friction_twist;
 use limits::clamp_twist;
-use na::{Vector3f, Vector6f};
+use matrices::rotation::Rotation;
+use na::Vector6f;
+use setpoints::ManeuverSetpoints;
 use stop::stop_scaled;
 
 // The tick's setpoints, limited, and the friction twist.
 #[tactic(auto, unfolding(crate::specs::Steer::limited))]
-pub fn limit(
-    twist: Vector3f,
-    body_accel: Vector3f,
-    estimate: Vector6f,
-    stop: bool,
-    cos: f32,
-    sin: f32,
-) -> Limited
-    ensures { result ≡ limited twist body_accel estimate stop cos sin }
+pub fn limit(asked: ManeuverSetpoints, estimate: Vector6f, stop: bool, heading: Rotation) -> Limited
+    ensures { result ≡ limited asked estimate stop heading }
 {
-    let clamp = clamp_twist(stop_scaled(stop, twist));
-    let body_twist = clamp.value;
+    let clamp = clamp_twist(stop_scaled(stop, asked.body_twist));
+    let setpoints = ManeuverSetpoints {
+        body_twist: clamp.value,
+        ..asked
+    };
     Limited {
-        friction_twist: friction_twist(cos, sin, estimate, body_twist, body_accel),
+        friction_twist: friction_twist(heading, estimate, setpoints),
         steered: Steered {
-            body_twist,
-            body_accel,
+            setpoints,
             vel_clamped: clamp.clamped,
-            cos,
-            sin,
+            heading,
         },
     }
 }

@@ -15,7 +15,8 @@ use Rattle.encoder_lag.specs.EncoderLag as Lag
 use Rattle.vision.specs.Vision.{active}
 use Rattle.vision.specs.Since.{clock_since}
 use Rattle.limits.specs.Limits.{twist_clamped}
-use Rattle.body_controller.specs.Controller.{new_of, new_number}
+use Rattle.refusal.specs.Refusal.{number_of}
+use Rattle.body_controller.specs.Controller.{new_of}
 
 -- the float with these bits
 abbrev pub float : ℕ → Float
@@ -39,7 +40,7 @@ nan_twist = record { x = nan; y = zero_float; z = zero_float }
 
 -- the number for a k: of a controller, of a brake and of a lag
 abbrev pub NumberFor : ℕ → ℕ → Type 0
-NumberFor k n = (new_number (new_of k) ≡ n) × (Brake.refusal_number (Brake.brake_of k) ≡ n) × (Lag.refusal_number (Lag.lag_of k) ≡ n)
+NumberFor k n = (number_of (new_of k) ≡ n) × (number_of (Brake.brake_of k) ≡ n) × (number_of (Lag.lag_of k) ≡ n)
 
 pub record Starred : Type 0 where
   -- 'k 0 and 65: 1'

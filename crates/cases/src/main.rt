@@ -7,6 +7,7 @@ mod limit; // limit.rt: a pass of 16,777,217 blocks
 
 use drive_pass::Pass;
 use drive_text::drive_block;
+use driven_text::Written;
 use full_read::read_full;
 use last_text::write_last;
 use limit::drive_to_limit;
@@ -31,13 +32,11 @@ pub(crate) fn drive_next(
     shown: bool,
 ) -> io::Result<Pass> {
     let mut line = [0; 128];
-    let w = drive_block(pass, block, &mut line);
-    let len = w.len;
-    let pass = w.pass;
-    if shown | w.refused {
+    let Written { pass, len, refused } = drive_block(pass, block, &mut line);
+    if shown | refused {
         rt.write_all(&line[..len])?;
     }
-    if w.refused {
+    if refused {
         print_last(rt, pass)?;
         return Ok(Pass::Empty);
     }
@@ -46,15 +45,13 @@ pub(crate) fn drive_next(
 
 fn drive_passes(rt: &HostRuntime) -> io::Result<()> {
     let mut pass = Pass::Empty;
-    let mut turns = TURNS;
-    while turns > 0 {
+    for _ in 0..TURNS {
         let mut block = [0; 512];
         let n = read_full(&mut rt.stdin(), &mut block)?;
         if n == 0 {
-            return Ok(());
+            break;
         }
         pass = drive_next(rt, pass, &block[..n], true)?;
-        turns = turns - 1;
     }
     Ok(())
 }

@@ -1,12 +1,13 @@
 -- Document 01, 'Records': the commands, the words that they are read from, and their fields. Assumes nothing.
-use Rattle.std.specs.Prelude.{ℕ, Bool, cond, List, [], ◌∷◌, eqb, ltb, Float}
+use Rattle.std.specs.Prelude.{ℕ, Bool, cond, List, [], ◌∷◌, get_or, eqb, ltb, Float, Result, Ok, Err}
+use Rattle.std.specs.Float.{binary32}
+use Rattle.std.specs.Float.Ieee.{of_bits}
+use Rattle.refusal.specs.declared.Refusal.{Refusal}
+use Rattle.refusal.specs.declared.Refusal.TheVariants as Why
 use Rattle.cmd.specs.declared.GlobalPosition.{GlobalPosition}
 use Rattle.cmd.specs.declared.HeadingLine.{HeadingLine}
 use Rattle.cmd.specs.declared.ManeuverCommand.{ManeuverCommand}
 use Rattle.cmd.specs.declared.ManeuverCommand.TheVariants as Cmd
-use Rattle.cmd.specs.declared.CommandWords.{CommandWords}
-use Rattle.cmd.specs.declared.CommandAnswer.{CommandAnswer}
-use Rattle.cmd.specs.declared.CommandAnswer.TheVariants.{Given, Refused}
 
 -- ---- modes
 
@@ -23,46 +24,45 @@ mode_of (Cmd.HeadingLine l) = 3
 
 -- ---- words
 
+-- word i of a command's 13, as floats
+abbrev pub word : List Float → ℕ → Float
+word w i = get_or w i (of_bits binary32 0)
+
 -- a position with 7 floats: target, then linear and angular speed and acceleration limits
-unfoldable pub position_from : CommandWords → GlobalPosition
+unfoldable pub position_from : List Float → GlobalPosition
 position_from w = record {
-  target_pose = record { x = w.w0; y = w.w1; z = w.w2 };
-  max_linear_vel = w.w3;
-  max_angular_vel = w.w4;
-  max_linear_acc = w.w5;
-  max_angular_acc = w.w6;
+  target_pose = record { x = word w 0; y = word w 1; z = word w 2 };
+  max_linear_vel = word w 3;
+  max_angular_vel = word w 4;
+  max_linear_acc = word w 5;
+  max_angular_acc = word w 6;
 }
 
 -- a line with 13: heading, start, direction, line speed, six limits, threshold
-unfoldable pub line_from : CommandWords → HeadingLine
+unfoldable pub line_from : List Float → HeadingLine
 line_from w = record {
-  global_theta = w.w0;
-  start_x = w.w1;
-  start_y = w.w2;
-  dir_x = w.w3;
-  dir_y = w.w4;
-  line_velocity = w.w5;
-  max_vel_colinear = w.w6;
-  max_vel_perp = w.w7;
-  max_vel_angular = w.w8;
-  max_accel_colinear = w.w9;
-  max_accel_perp = w.w10;
-  max_accel_angular = w.w11;
-  colinear_start_thresh = w.w12;
+  global_theta = word w 0;
+  start_x = word w 1;
+  start_y = word w 2;
+  dir_x = word w 3;
+  dir_y = word w 4;
+  line_velocity = word w 5;
+  max_vel_colinear = word w 6;
+  max_vel_perp = word w 7;
+  max_vel_angular = word w 8;
+  max_accel_colinear = word w 9;
+  max_accel_perp = word w 10;
+  max_accel_angular = word w 11;
+  colinear_start_thresh = word w 12;
 }
 
 -- the command of a mode number and its words
-unfoldable pub command_from : ℕ → CommandWords → CommandAnswer
+unfoldable pub command_from : ℕ → List Float → Result ManeuverCommand Refusal
 command_from mode w =
-    cond (eqb mode 0) (Given Cmd.Off)
-    (cond (eqb mode 1) (Given Cmd.Brake)
-    (cond (eqb mode 2) (Given (Cmd.GlobalPosition (position_from w)))
-    (cond (eqb mode 3) (Given (Cmd.HeadingLine (line_from w))) Refused)))
-
--- document 01's number for an answer, and 0 for the one that is no refusal
-abbrev pub refusal_number : CommandAnswer → ℕ
-refusal_number (Given c) = 0
-refusal_number Refused = 4
+    cond (eqb mode 0) (Ok Cmd.Off)
+    (cond (eqb mode 1) (Ok Cmd.Brake)
+    (cond (eqb mode 2) (Ok (Cmd.GlobalPosition (position_from w)))
+    (cond (eqb mode 3) (Ok (Cmd.HeadingLine (line_from w))) (Err Why.Mode))))
 
 -- 'When a call is turned away': mode not 0..3, 4
 abbrev pub refusal_of : ℕ → ℕ

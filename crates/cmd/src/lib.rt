@@ -2,11 +2,13 @@
 #![tactic(auto)]
 
 ghost use Rattle.std.specs.Prelude.{◌≡◌};
-ghost use Rattle.cmd.specs.Command.{is_mode, command_from, refusal_number, refusal_of};
+ghost use Rattle.refusal.specs.Refusal.{number_of};
+ghost use Rattle.cmd.specs.Command.{is_mode, position_from, line_from, command_from, refusal_of};
 
 use na::Vector3f;
+use refusal::Refusal;
 
-#[derive(Clone, Copy)]
+#[derive(Clone, Copy, PartialEq)]
 pub struct GlobalPosition {
     pub target_pose: Vector3f,
     pub max_linear_vel: f32,
@@ -15,7 +17,7 @@ pub struct GlobalPosition {
     pub max_angular_acc: f32,
 }
 
-#[derive(Clone, Copy)]
+#[derive(Clone, Copy, PartialEq)]
 pub struct HeadingLine {
     pub global_theta: f32,
     pub start_x: f32,
@@ -32,7 +34,7 @@ pub struct HeadingLine {
     pub colinear_start_thresh: f32,
 }
 
-#[derive(Clone, Copy)]
+#[derive(Clone, Copy, PartialEq)]
 pub enum ManeuverCommand {
     Off,
     Brake,
@@ -41,29 +43,7 @@ pub enum ManeuverCommand {
 }
 
 // A block's command words, 24-36, as floats.
-#[derive(Clone, Copy)]
-pub struct CommandWords {
-    pub w0: f32,
-    pub w1: f32,
-    pub w2: f32,
-    pub w3: f32,
-    pub w4: f32,
-    pub w5: f32,
-    pub w6: f32,
-    pub w7: f32,
-    pub w8: f32,
-    pub w9: f32,
-    pub w10: f32,
-    pub w11: f32,
-    pub w12: f32,
-}
-
-// A command, or document 01's refusal 4: the mode is not from 0 to 3.
-#[derive(Clone, Copy)]
-pub enum CommandAnswer {
-    Given(ManeuverCommand),
-    Refused,
-}
+pub type CommandWords = [f32; 13];
 
 pub fn is_mode(mode: u32) -> bool
     ensures { result ≡ is_mode mode }
@@ -71,54 +51,60 @@ pub fn is_mode(mode: u32) -> bool
     mode < 4
 }
 
+impl From<CommandWords> for GlobalPosition {
+    #[tactic(auto, unfolding(crate::specs::Command::position_from))]
+    fn from(w: CommandWords) -> GlobalPosition
+        ensures { result ≡ position_from w }
+    {
+        GlobalPosition {
+            target_pose: Vector3f {
+                x: w[0],
+                y: w[1],
+                z: w[2],
+            },
+            max_linear_vel: w[3],
+            max_angular_vel: w[4],
+            max_linear_acc: w[5],
+            max_angular_acc: w[6],
+        }
+    }
+}
+
+impl From<CommandWords> for HeadingLine {
+    #[tactic(auto, unfolding(crate::specs::Command::line_from))]
+    fn from(w: CommandWords) -> HeadingLine
+        ensures { result ≡ line_from w }
+    {
+        HeadingLine {
+            global_theta: w[0],
+            start_x: w[1],
+            start_y: w[2],
+            dir_x: w[3],
+            dir_y: w[4],
+            line_velocity: w[5],
+            max_vel_colinear: w[6],
+            max_vel_perp: w[7],
+            max_vel_angular: w[8],
+            max_accel_colinear: w[9],
+            max_accel_perp: w[10],
+            max_accel_angular: w[11],
+            colinear_start_thresh: w[12],
+        }
+    }
+}
+
 impl ManeuverCommand {
-    // The command of a mode number. Words that its mode does not use are not read.
-    #[tactic(auto, unfolding(crate::specs::Command::command_from, crate::specs::Command::position_from, crate::specs::Command::line_from))]
-    pub fn from_words(mode: u32, w: CommandWords) -> CommandAnswer
-        ensures { (result ≡ command_from mode w) × (refusal_number result ≡ refusal_of mode) }
+    // The command of a mode number, or refusal 4. Words that its mode does not use are not read.
+    #[tactic(auto, unfolding(crate::specs::Command::command_from))]
+    pub fn from_words(mode: u32, w: CommandWords) -> Result<ManeuverCommand, Refusal>
+        ensures { (result ≡ command_from mode w) × (number_of result ≡ refusal_of mode) }
     {
         match mode {
-            0 => {
-                return CommandAnswer::Given(ManeuverCommand::Off);
-            }
-            1 => {
-                return CommandAnswer::Given(ManeuverCommand::Brake);
-            }
-            2 => {
-                let position = GlobalPosition {
-                    target_pose: Vector3f {
-                        x: w.w0,
-                        y: w.w1,
-                        z: w.w2,
-                    },
-                    max_linear_vel: w.w3,
-                    max_angular_vel: w.w4,
-                    max_linear_acc: w.w5,
-                    max_angular_acc: w.w6,
-                };
-                return CommandAnswer::Given(ManeuverCommand::GlobalPosition(position));
-            }
-            3 => {
-                let line = HeadingLine {
-                    global_theta: w.w0,
-                    start_x: w.w1,
-                    start_y: w.w2,
-                    dir_x: w.w3,
-                    dir_y: w.w4,
-                    line_velocity: w.w5,
-                    max_vel_colinear: w.w6,
-                    max_vel_perp: w.w7,
-                    max_vel_angular: w.w8,
-                    max_accel_colinear: w.w9,
-                    max_accel_perp: w.w10,
-                    max_accel_angular: w.w11,
-                    colinear_start_thresh: w.w12,
-                };
-                return CommandAnswer::Given(ManeuverCommand::HeadingLine(line));
-            }
-            _ => {
-                return CommandAnswer::Refused;
-            }
+            0 => Ok(ManeuverCommand::Off),
+            1 => Ok(ManeuverCommand::Brake),
+            2 => Ok(ManeuverCommand::GlobalPosition(GlobalPosition::from(w))),
+            3 => Ok(ManeuverCommand::HeadingLine(HeadingLine::from(w))),
+            _ => Err(Refusal::Mode),
         }
     }
 }

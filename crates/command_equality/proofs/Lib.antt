@@ -1,3 +1,2 @@
--- Laws of equality, and what two proofs share. Assumes nothing.
-pub mod Fields
+-- Laws of equality. Assumes nothing.
 pub mod Laws

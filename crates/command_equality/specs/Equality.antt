@@ -1,10 +1,8 @@
 -- Document 01, 'Records' and 'The tick's four calls', Plan: when two commands are equal, and when the command changed. Assumes nothing.
-use Rattle.std.specs.Prelude.{Bool, true, false, not, ◌&&◌, List, [], ◌∷◌, eqb, Float}
+use Rattle.std.specs.Prelude.{Bool, true, false, not, ◌&&◌, List, [], ◌∷◌, eqb, Float, Option, None, Some}
 use Rattle.std.specs.Float.Ieee.{eq}
 use Rattle.cmd.specs.declared.ManeuverCommand.{ManeuverCommand}
 use Rattle.cmd.specs.Command.{mode_of, fields_of}
-use Rattle.memory.specs.declared.PrevCommand.{PrevCommand}
-use Rattle.memory.specs.declared.PrevCommand.TheVariants as Prev
 
 -- fields equal as floats, each with the one at its place
 unfoldable pub fields_equal : List Float → List Float → Bool
@@ -18,6 +16,6 @@ unfoldable pub equal : ManeuverCommand → ManeuverCommand → Bool
 equal a b = eqb (mode_of a) (mode_of b) && fields_equal (fields_of a) (fields_of b)
 
 -- the command changed: there is no previous one, or the two are not equal
-unfoldable pub command_changed : PrevCommand → ManeuverCommand → Bool
-command_changed Prev.Absent cmd = true
-command_changed (Prev.Was prev) cmd = not (equal prev cmd)
+unfoldable pub command_changed : Option ManeuverCommand → ManeuverCommand → Bool
+command_changed None cmd = true
+command_changed (Some prev) cmd = not (equal prev cmd)

@@ -12,7 +12,7 @@ unfoldable pub new_context : Vector6f → ControlContext
 new_context estimate = record {
   vision = new_vision;
   memory = empty_memory;
-  divergence = record { state = Normal };
+  divergence = Normal;
   pose_pid = empty_pid;
   state_estimate = estimate;
   prev_mode = 0;
@@ -24,7 +24,7 @@ unfoldable pub context_reset : ControlContext → ControlContext
 context_reset c = record {
   vision = new_vision;
   memory = empty_memory;
-  divergence = record { state = Normal };
+  divergence = Normal;
   pose_pid = empty_pid;
   state_estimate = c.state_estimate;
   prev_mode = c.prev_mode;

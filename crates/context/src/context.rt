@@ -2,7 +2,7 @@
 ghost use Rattle.std.specs.Prelude.{◌≡◌};
 ghost use Rattle.context.specs.Context.{new_context, context_reset, planner_failed};
 
-use crate::{ControlContext, Divergence};
+use crate::ControlContext;
 use divergence::TrackingDivergenceState;
 use memory::Memory;
 use na::Vector6f;
@@ -18,9 +18,7 @@ impl ControlContext {
         ControlContext {
             vision: Vision::new(),
             memory: Memory::empty(),
-            divergence: Divergence {
-                state: TrackingDivergenceState::Normal,
-            },
+            divergence: TrackingDivergenceState::Normal,
             pose_pid: EMPTY_PID,
             state_estimate,
             prev_mode: 0,
@@ -33,18 +31,21 @@ impl ControlContext {
     pub fn reset(self) -> ControlContext
         ensures { result ≡ context_reset self }
     {
-        let mut context = ControlContext::new(self.state_estimate);
-        context.prev_mode = self.prev_mode;
-        context.wheels_disabled = self.wheels_disabled;
-        context
+        ControlContext {
+            prev_mode: self.prev_mode,
+            wheels_disabled: self.wheels_disabled,
+            ..ControlContext::new(self.state_estimate)
+        }
     }
 
     // A planner failure drops the trajectory.
     #[tactic(auto, unfolding(crate::specs::Context::planner_failed))]
-    pub fn fail_plan(mut self) -> ControlContext
+    pub fn fail_plan(self) -> ControlContext
         ensures { result ≡ planner_failed self }
     {
-        self.memory = self.memory.drop_trajectory();
-        self
+        ControlContext {
+            memory: self.memory.drop_trajectory(),
+            ..self
+        }
     }
 }

@@ -13,17 +13,12 @@ use plan_answer::PlanAnswer;
 use setpoints::PidMemory;
 use vision::Vision;
 
-// `tracking_divergence_state`, in a struct of its own, as a field that is an enum can't be set.
-#[derive(Clone, Copy)]
-pub struct Divergence {
-    pub state: TrackingDivergenceState,
-}
-
 #[derive(Clone, Copy)]
 pub struct ControlContext {
     pub vision: Vision,
     pub memory: Memory,
-    pub divergence: Divergence,
+    // `tracking_divergence_state`.
+    pub divergence: TrackingDivergenceState,
     pub pose_pid: PidMemory,
     pub state_estimate: Vector6f,
     pub prev_mode: u32,

@@ -13,7 +13,7 @@ use Rattle.context_plan.specs.declared.Decided.{Decided}
 -- the one decision, on this command
 abbrev pub decision_on : ControlContext → ℕ → Bool → ManeuverCommand → Vector6f → Decision
 decision_on c mode halt cmd estimate =
-    decided mode halt (is_recovering c.divergence.state) (active c.vision.time_since_vision_update_s) cmd c.memory c.prev_mode estimate
+    decided mode halt (is_recovering c.divergence) (active c.vision.time_since_vision_update_s) cmd c.memory c.prev_mode estimate
 
 -- 'the estimate is set; then answer, drops and previous mode'; 'Modes 2 and 3 without active vision disable the wheels'
 unfoldable pub decided_on : ControlContext → ℕ → Bool → ManeuverCommand → Vector6f → Decided

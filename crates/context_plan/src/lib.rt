@@ -6,7 +6,7 @@ ghost use Rattle.context_plan.specs.Plan.{decided_on};
 
 use cmd::ManeuverCommand;
 use context::ControlContext;
-use maneuvers::decide;
+use maneuvers::{Decision, decide};
 use na::Vector6f;
 use plan_answer::PlanAnswer;
 
@@ -20,7 +20,7 @@ pub struct Decided {
 // Plan sets the estimate and decides on the command.
 #[tactic(auto, unfolding(crate::specs::Plan::decided_on))]
 pub fn decide_on(
-    mut context: ControlContext,
+    context: ControlContext,
     mode: u32,
     halt: bool,
     cmd: ManeuverCommand,
@@ -28,23 +28,26 @@ pub fn decide_on(
 ) -> Decided
     ensures { result ≡ decided_on context mode halt cmd state_estimate }
 {
-    let divergence = context.divergence;
-    let state = divergence.state;
-    let decision = decide(
+    let Decision {
+        answer,
+        memory,
+        prev_mode,
+    } = decide(
         mode,
         halt,
-        state.recovering(),
+        context.divergence.recovering(),
         context.vision.vision_active(),
         cmd,
         context.memory,
         context.prev_mode,
         state_estimate,
     );
-    let answer = decision.answer;
-    let memory = decision.memory;
-    context.state_estimate = state_estimate;
-    context.memory = memory;
-    context.prev_mode = decision.prev_mode;
-    context.wheels_disabled = context.wheels_disabled | answer.disables_wheels();
+    let context = ControlContext {
+        state_estimate,
+        memory,
+        prev_mode,
+        wheels_disabled: context.wheels_disabled | answer.disables_wheels(),
+        ..context
+    };
     Decided { answer, context }
 }

@@ -1,5 +1,5 @@
 -- Sight's work on a context, document 01, 'The tick's four calls': wheels, gate and drops. Assumes nothing.
-use Rattle.std.specs.Prelude.{Bool, false, cond, Float}
+use Rattle.std.specs.Prelude.{false, cond, Float, Option}
 use Rattle.na.specs.declared.Vector3f.{Vector3f}
 use Rattle.na.specs.declared.Vector6f.{Vector6f}
 use Rattle.gate_action.specs.declared.GateAction.{GateAction}
@@ -23,8 +23,8 @@ after_sight c a vision = record {
   wheels_disabled = false;
 }
 
--- from whether there is a sighting, the sighting, the predicted state and the tick's length in seconds
-unfoldable pub seen : ControlContext → Bool → Vector3f → Vector6f → Float → Seen
-seen c sighting pose predicted dt =
-    let v = vision_after c.vision sighting pose predicted dt in
+-- from the sighting, if there is one, the predicted state and the tick's length in seconds
+unfoldable pub seen : ControlContext → Option Vector3f → Vector6f → Float → Seen
+seen c sighting predicted dt =
+    let v = vision_after c.vision sighting predicted dt in
     record { action = v.action; context = after_sight c v.action v.vision }

@@ -9,6 +9,7 @@ use gate_action::GateAction;
 use memory::Memory;
 use na::{Vector3f, Vector6f};
 use setpoints::EMPTY_PID;
+use vision::VisionAnswer;
 
 // The outcome, beside the context as sight leaves it.
 #[derive(Clone, Copy)]
@@ -20,25 +21,25 @@ pub struct Seen {
 // Sight enables the wheels; where its outcome overwrites, both memories are dropped.
 #[tactic(auto, unfolding(crate::specs::Sight::seen, setpoints::specs::Setpoints::empty_pid, na::specs::Vector::zeros3))]
 pub fn see(
-    mut context: ControlContext,
-    vision_update: bool,
-    vision_pose_meas: Vector3f,
+    context: ControlContext,
+    sighting: Option<Vector3f>,
     predicted_state: Vector6f,
     dt: f32,
 ) -> Seen
-    ensures { result ≡ seen context vision_update vision_pose_meas predicted_state dt }
+    ensures { result ≡ seen context sighting predicted_state dt }
 {
-    let answer = context
-        .vision
-        .update(vision_update, vision_pose_meas, predicted_state, dt);
-    let action = answer.action;
-    let vision = answer.vision;
-    context.vision = vision;
-    context.wheels_disabled = false;
+    let VisionAnswer { action, vision } = context.vision.update(sighting, predicted_state, dt);
+    let context = ControlContext {
+        vision,
+        wheels_disabled: false,
+        ..context
+    };
     if action.overwrites() {
-        context.memory = Memory::empty();
-        let pose_pid = EMPTY_PID;
-        context.pose_pid = pose_pid;
+        let context = ControlContext {
+            memory: Memory::empty(),
+            pose_pid: EMPTY_PID,
+            ..context
+        };
         return Seen { action, context };
     }
     Seen { action, context }

@@ -1,23 +1,18 @@
 -- Steer's work on a context, document 01, 'The tick's four calls': tracking and recovery. Assumes nothing.
-use Rattle.std.specs.Prelude.{cond, Float}
+use Rattle.std.specs.Prelude.{cond, Float, Option, None, Some, option_map}
 use Rattle.na.specs.declared.Vector4f.{Vector4f}
 use Rattle.na.specs.declared.Vector6f.{Vector6f}
 use Rattle.cmd.specs.declared.ManeuverCommand.{ManeuverCommand}
 use Rattle.memory.specs.declared.Sample.{Sample}
-use Rattle.memory.specs.declared.HeldSample.{HeldSample}
-use Rattle.memory.specs.declared.HeldSample.TheVariants as Samples
 use Rattle.memory.specs.declared.Memory.{Memory}
 use Rattle.plan_answer.specs.declared.PlanAnswer.{PlanAnswer}
 use Rattle.plan_answer.specs.declared.PlanAnswer.TheVariants.{Hold, NoVision, Keep, NewPlan}
 use Rattle.memory.specs.Memory.{after_tracking, held_or}
-use Rattle.recovery.specs.declared.HeldState.{HeldState}
-use Rattle.recovery.specs.declared.HeldState.TheVariants as States
 use Rattle.recovery.specs.declared.RecoveryAnswer.{RecoveryAnswer}
 use Rattle.setpoints.specs.Setpoints.{zero_setpoints}
 use Rattle.tracking.specs.Setpoints.{tracking_setpoints}
 use Rattle.recovery.specs.Recovery.{recovery}
 use Rattle.context.specs.declared.ControlContext.{ControlContext}
-use Rattle.context.specs.declared.Divergence.{Divergence}
 use Rattle.context.specs.declared.Planned.{Planned}
 use Rattle.context_steer.specs.declared.Tracked.{Tracked}
 use Rattle.context.specs.Context.{context_reset}
@@ -25,9 +20,8 @@ use Rattle.context.specs.Context.{context_reset}
 -- ---- tracking
 
 -- the state of the sample that is held, if one is
-abbrev pub held_state : HeldSample → HeldState
-held_state Samples.Absent = States.Absent
-held_state (Samples.Held s) = States.Held s.state
+abbrev pub held_state : Option Sample → Option Vector6f
+held_state held = option_map (λ (s : Sample). s.state) held
 
 -- `calc_tracking_setpoints` on a sample; 'after it, the next sample is held and the command is the previous one'
 unfoldable pub tracked : ControlContext → Sample → Sample → ManeuverCommand → Float → Tracked
@@ -57,13 +51,13 @@ unfoldable pub followed : ControlContext → Planned → Sample → Sample → F
 followed c p fresh next dt = followed_by p.answer c p.cmd fresh next dt
 
 -- the sample that an answer tracks, if it tracks one
-abbrev pub sample_by : PlanAnswer → HeldSample → Sample → HeldSample
-sample_by Hold held fresh = Samples.Absent
-sample_by NoVision held fresh = Samples.Absent
-sample_by Keep held fresh = Samples.Held (held_or held fresh)
-sample_by (NewPlan seed) held fresh = Samples.Held fresh
+abbrev pub sample_by : PlanAnswer → Option Sample → Sample → Option Sample
+sample_by Hold held fresh = None
+sample_by NoVision held fresh = None
+sample_by Keep held fresh = Some (held_or held fresh)
+sample_by (NewPlan seed) held fresh = Some fresh
 
-abbrev pub tracked_sample : Planned → Memory → Sample → HeldSample
+abbrev pub tracked_sample : Planned → Memory → Sample → Option Sample
 tracked_sample p m fresh = sample_by p.answer m.held fresh
 
 -- ---- recovery
@@ -73,7 +67,7 @@ abbrev pub in_recovery : ControlContext → RecoveryAnswer → ControlContext
 in_recovery c r = record {
   vision = c.vision;
   memory = c.memory;
-  divergence = record { state = r.state };
+  divergence = r.state;
   pose_pid = c.pose_pid;
   state_estimate = c.state_estimate;
   prev_mode = c.prev_mode;
@@ -81,11 +75,8 @@ in_recovery c r = record {
 }
 
 -- what recovery says of the sample held by now
-abbrev pub recovery_by : Divergence → Memory → Vector6f → Vector4f → RecoveryAnswer
-recovery_by d m estimate wheels = recovery d.state (held_state m.held) estimate wheels
-
 abbrev pub recovery_of : ControlContext → Vector4f → RecoveryAnswer
-recovery_of c wheels = recovery_by c.divergence c.memory c.state_estimate wheels
+recovery_of c wheels = recovery c.divergence (held_state c.memory.held) c.state_estimate wheels
 
 unfoldable pub recovered : ControlContext → Vector4f → ControlContext
 recovered c wheels = cond (recovery_of c wheels).reset (context_reset c) (in_recovery c (recovery_of c wheels))

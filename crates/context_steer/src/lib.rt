@@ -2,15 +2,15 @@
 #![tactic(auto)]
 
 ghost use Rattle.std.specs.Prelude.{◌≡◌};
-ghost use Rattle.context_steer.specs.Steer.{tracked_sample, recovery_by, recovered, steered};
+ghost use Rattle.context_steer.specs.Steer.{tracked_sample, recovered, steered};
 
-use context::{ControlContext, Divergence, Planned};
-use memory::{HeldSample, Memory, Sample};
-use na::{Vector4f, Vector6f};
+use context::{ControlContext, Planned};
+use memory::{Memory, Sample};
+use na::Vector4f;
 use plan_answer::PlanAnswer;
-use recovery::{HeldState, RecoveryAnswer, update_tracking_divergence_recovery};
+use recovery::update_tracking_divergence_recovery;
 use setpoints::{ManeuverSetpoints, ZERO_SETPOINTS};
-use tracking::calc_tracking_setpoints;
+use tracking::{TrackingAnswer, calc_tracking_setpoints};
 
 // Setpoints, beside the context as steer leaves it.
 #[derive(Clone, Copy)]
@@ -20,82 +20,40 @@ pub struct Tracked {
 }
 
 // The sample that plan's answer tracks, if it tracks one.
-fn tracked_sample(p: Planned, memory: Memory, fresh: Sample) -> HeldSample
+fn tracked_sample(p: Planned, memory: Memory, fresh: Sample) -> Option<Sample>
     ensures { result ≡ tracked_sample p memory fresh }
 {
-    let answer = p.answer;
-    let held = memory.held;
-    match answer {
-        PlanAnswer::Hold => {
-            return HeldSample::Absent;
-        }
-        PlanAnswer::NoVision => {
-            return HeldSample::Absent;
-        }
-        PlanAnswer::Keep => {
-            return HeldSample::Held(held.held_or(fresh));
-        }
-        PlanAnswer::NewPlan(seed) => {
-            return HeldSample::Held(fresh);
-        }
+    match p.answer {
+        PlanAnswer::Hold | PlanAnswer::NoVision => None,
+        PlanAnswer::Keep => Some(memory.held_or(fresh)),
+        PlanAnswer::NewPlan(_) => Some(fresh),
     }
 }
 
-// What recovery says of the sample that is held by now.
-fn recovery_of(
-    divergence: Divergence,
-    memory: Memory,
-    state_estimate: Vector6f,
-    wheel_vel_meas: Vector4f,
-) -> RecoveryAnswer
-    ensures { result ≡ recovery_by divergence memory state_estimate wheel_vel_meas }
-{
-    let held = memory.held;
-    let state = divergence.state;
-    match held {
-        HeldSample::Absent => {
-            return update_tracking_divergence_recovery(
-                state,
-                HeldState::Absent,
-                state_estimate,
-                wheel_vel_meas,
-            );
-        }
-        HeldSample::Held(sample) => {
-            let held_state = sample.state;
-            return update_tracking_divergence_recovery(
-                state,
-                HeldState::Held(held_state),
-                state_estimate,
-                wheel_vel_meas,
-            );
-        }
-    }
-}
-
+// Recovery, judged on the sample that is held by now.
 #[tactic(auto, unfolding(crate::specs::Steer::recovered))]
-fn recover(mut context: ControlContext, wheel_vel_meas: Vector4f) -> ControlContext
+fn recover(context: ControlContext, wheel_vel_meas: Vector4f) -> ControlContext
     ensures { result ≡ recovered context wheel_vel_meas }
 {
-    let answer = recovery_of(
+    let answer = update_tracking_divergence_recovery(
         context.divergence,
-        context.memory,
+        context.memory.held.map(|sample| sample.state),
         context.state_estimate,
         wheel_vel_meas,
     );
     if answer.reset {
         return context.reset();
     }
-    let state = answer.state;
-    let next = Divergence { state };
-    context.divergence = next;
-    context
+    ControlContext {
+        divergence: answer.state,
+        ..context
+    }
 }
 
 // Setpoints, then recovery. After tracking the next sample is held, and the command is the previous one.
 #[tactic(auto, unfolding(crate::specs::Steer::steered, crate::specs::Steer::followed, setpoints::specs::Setpoints::zero_setpoints, na::specs::Vector::zeros3, crate::specs::Steer::tracked))]
 pub fn steer(
-    mut context: ControlContext,
+    context: ControlContext,
     p: Planned,
     fresh: Sample,
     next: Sample,
@@ -104,30 +62,26 @@ pub fn steer(
 ) -> Tracked
     ensures { result ≡ steered context p fresh next wheel_vel_meas dt }
 {
-    let tracked = tracked_sample(p, context.memory, fresh);
-    match tracked {
-        HeldSample::Absent => {
-            context = recover(context, wheel_vel_meas);
-            return Tracked {
-                setpoints: ZERO_SETPOINTS,
-                context,
-            };
-        }
-        HeldSample::Held(sample) => {
-            let answer = calc_tracking_setpoints(
-                context.pose_pid,
-                context.state_estimate,
-                sample.state,
-                sample.accel,
-                dt,
-            );
-            let setpoints = answer.setpoints;
-            let pid = answer.pid;
-            context.pose_pid = pid;
-            let cmd = p.cmd;
-            context.memory = Memory::after_tracking(next, cmd);
-            context = recover(context, wheel_vel_meas);
-            return Tracked { setpoints, context };
-        }
+    let Some(sample) = tracked_sample(p, context.memory, fresh) else {
+        return Tracked {
+            setpoints: ZERO_SETPOINTS,
+            context: recover(context, wheel_vel_meas),
+        };
+    };
+    let TrackingAnswer { setpoints, pid } = calc_tracking_setpoints(
+        context.pose_pid,
+        context.state_estimate,
+        sample.state,
+        sample.accel,
+        dt,
+    );
+    let context = ControlContext {
+        pose_pid: pid,
+        memory: Memory::after_tracking(next, p.cmd),
+        ..context
+    };
+    Tracked {
+        setpoints,
+        context: recover(context, wheel_vel_meas),
     }
 }

@@ -1,3 +1,3 @@
--- What the contracts of `divergence` cite: document 01, 'Steer', sentence by sentence. Definitions only; the laws about them stand in proofs/.
+-- What the contracts of `divergence` cite: document 01, 'Steer', sentence by sentence. Definitions only.
 -- Assumes nothing.
 pub mod Divergence

@@ -4,7 +4,7 @@
 ghost use Rattle.std.specs.Prelude.{◌≡◌};
 ghost use Rattle.divergence.specs.Divergence.{is_recovering};
 
-#[derive(Clone, Copy)]
+#[derive(Clone, Copy, Debug, PartialEq, Eq)]
 pub enum TrackingDivergenceState {
     Normal,
     Recovering,
@@ -15,9 +15,6 @@ impl TrackingDivergenceState {
     pub fn recovering(self) -> bool
         ensures { result ≡ is_recovering self }
     {
-        match self {
-            TrackingDivergenceState::Normal => false,
-            TrackingDivergenceState::Recovering => true,
-        }
+        self == TrackingDivergenceState::Recovering
     }
 }

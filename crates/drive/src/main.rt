@@ -3,8 +3,6 @@
 // gives is written: here is nothing else. A failed read or write ends it.
 #![tactic(auto)]
 
-ghost use Rattle.std.specs.Prelude.{◌<◌};
-
 use drive_pass::Pass;
 use drive_text::drive_batch;
 use full_read::read_full;
@@ -14,26 +12,18 @@ use std::io;
 // Blocks are read 128 at a time; these many turns read one block more than a pass can drive.
 const TURNS: u32 = 131_073;
 
-// The turns that are left after one: none where the reading is over.
-fn turns_left(turns: u32, over: bool) -> u32
-    requires { 0 < turns }
-    ensures { result < turns }
-{
-    if over { 0 } else { turns - 1 }
-}
-
 fn main(rt: HostRuntime) -> io::Result<()> {
     let mut buf = [0; 65536];
     let mut out = [0; 65536];
     let mut pass = Pass::Empty;
-    let mut turns = TURNS;
-    while turns > 0 {
+    for _ in 0..TURNS {
         let n = read_full(&mut rt.stdin(), &mut buf)?;
         let w = drive_batch(pass, &buf[..n], &mut out);
         pass = w.pass;
-        let len = w.len;
-        rt.write_all(&out[..len])?;
-        turns = turns_left(turns, w.refused | (n < 65536));
+        rt.write_all(&out[..w.len])?;
+        if w.refused || n < buf.len() {
+            break;
+        }
     }
     let mut line = [0; 128];
     let len = write_last(pass, &mut line);

@@ -1,59 +1,52 @@
 -- What a block makes of a pass, and its line: document 01, 'When a call is turned away' (blocks) and 'Cases' (program `drive`). Assumes nothing.
-use Rattle.std.specs.Prelude.{ℕ, cond, List, eqb}
-use Rattle.tick_length.specs.declared.TickLength.{TickLength}
-use Rattle.tick.specs.Refusal.{refusal_number}
+use Rattle.std.specs.Prelude.{cond, List, ℕ, eqb, Result, Ok, Err}
+use Rattle.refusal.specs.declared.Refusal.{Refusal}
+use Rattle.refusal.specs.declared.Refusal.TheVariants as Why
+use Rattle.refusal.specs.Refusal.{refusal_number}
+use Rattle.block_order.specs.Order.{order_tested}
 use Rattle.body_controller.specs.declared.BodyController.{BodyController}
-use Rattle.body_controller.specs.declared.NewAnswer.{NewAnswer}
-use Rattle.body_controller.specs.declared.NewAnswer.TheVariants as New
 use Rattle.body_controller.specs.Controller.{new_of}
-use Rattle.tick_block.specs.declared.BlockAnswer.{BlockAnswer}
-use Rattle.tick_block.specs.declared.BlockAnswer.TheVariants as Block
 use Rattle.tick_block.specs.declared.TickBlock.{TickBlock}
-use Rattle.tick_block.specs.Block as Blocks
+use Rattle.tick_block.specs.Block.{block_read}
 use Rattle.drive_pass.specs.declared.Driven.{Driven}
 use Rattle.drive_pass.specs.declared.Pass.{Pass}
 use Rattle.drive_pass.specs.declared.Pass.TheVariants.{Empty, Driving}
 use Rattle.drive_pass.specs.Pass.{refused_by}
-use Rattle.line_text.specs.declared.Line.{Line}
 use Rattle.tick_calls.specs.Tick.{ticked}
-use Rattle.block_order.specs.Order.{order_of}
 
--- 9, then 10; 0 for a block that comes in order. The first block's number must be 0
-abbrev pub order_refusal : Pass → TickLength → ℕ → ℕ
-order_refusal Empty tick n = cond (eqb n 0) 0 10
-order_refusal (Driving c) tick n = order_of tick c.choices.tick n c.ticks
-
--- a tick's line, and its controller for the pass
-unfoldable pub carried : Line → BodyController → Driven
-carried line c = record { line = line; pass = Driving c }
-
--- a tick on the block's inputs
+-- a tick on the block's inputs: its line, and its controller for the pass
 unfoldable pub ticked_on : BodyController → TickBlock → Driven
-ticked_on c b = let t = ticked c b.sight b.plan b.steer b.finish in carried t.line t.controller
+ticked_on c b = let t = ticked c b.sight b.plan b.steer b.finish in record { line = t.line; pass = Driving t.controller }
 
-abbrev pub begun_with : NewAnswer → Pass → TickBlock → Driven
-begun_with (New.Made c) p b = ticked_on c b
-begun_with (New.Refused r) p b = refused_by (refusal_number r) p
+-- the drive's own controller, where the block comes in order
+abbrev pub in_order : Result (Unit {0}) Refusal → BodyController → Result BodyController Refusal
+in_order (Ok u) c = Ok c
+in_order (Err r) c = Err r
 
--- 'the first accepted block's k makes the controller'
-unfoldable pub begun : Pass → TickBlock → Driven
-begun p b = begun_with (new_of b.tick.k) p b
+-- the controller that is to drive a block: 9, then 10; the first block's number must be 0, and 'the first accepted block's k makes the controller'
+unfoldable pub driver_of : Pass → TickBlock → Result BodyController Refusal
+driver_of Empty b = cond (eqb b.number 0) (new_of b.tick.k) (Err Why.Order)
+driver_of (Driving c) b = in_order (order_tested b.tick c.choices.tick b.number c.ticks) c
 
--- a block that comes in order
-abbrev pub in_order : Pass → TickBlock → Driven
-in_order Empty b = begun Empty b
-in_order (Driving c) b = ticked_on c b
+-- by that controller
+abbrev pub driven_by : Result BodyController Refusal → TickBlock → Result Driven Refusal
+driven_by (Ok c) b = Ok (ticked_on c b)
+driven_by (Err r) b = Err r
 
-abbrev pub taken_with : ℕ → Pass → TickBlock → Driven
-taken_with n p b = cond (eqb n 0) (in_order p b) (refused_by n p)
+-- by what the block says
+abbrev pub taken_with : Result TickBlock Refusal → Pass → Result Driven Refusal
+taken_with (Ok b) p = driven_by (driver_of p b) b
+taken_with (Err r) p = Err r
 
-unfoldable pub taken : Pass → TickBlock → Driven
-taken p b = taken_with (order_refusal p b.tick b.number) p b
+-- what an accepted block makes of a pass
+unfoldable pub taken : Pass → List ℕ → Result Driven Refusal
+taken p bytes = taken_with (block_read bytes) p
 
-abbrev pub driven_with : BlockAnswer → Pass → Driven
-driven_with (Block.Read b) p = taken p b
-driven_with (Block.Refused r) p = refused_by (Blocks.refusal_number r) p
+-- a refused block leaves the pass
+abbrev pub driven_with : Result Driven Refusal → Pass → Driven
+driven_with (Ok d) p = d
+driven_with (Err r) p = refused_by (refusal_number r) p
 
 -- a block's line and the next pass
 unfoldable pub driven : Pass → List ℕ → Driven
-driven p bytes = driven_with (Blocks.block_read bytes) p
+driven p bytes = driven_with (taken p bytes) p

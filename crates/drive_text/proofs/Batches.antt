@@ -1,4 +1,4 @@
--- What `specs/BatchLaws.antt` states of batches, and two laws for the loop that drives one (`stays`, `one_more`). Assumes nothing.
+-- What `specs/BatchLaws.antt` states of batches. Assumes nothing.
 use Prim.Native.Nat.{ℕ, zero, suc, ◌+◌, ◌*◌, ◌≤◌, ◌<◌}
 use mathlib.Core.Path.{◌≡◌, refl, sym, ap, ◌∙◌}
 use mathlib.Core.Bool.{Bool, true, false, cond}
@@ -25,7 +25,7 @@ then-nothing t = go t.blocks t.lines t.over
     go bs ls true = refl
     go bs ls false = rw (append-nil bs, append-nil ls)
 
-then_assoc : (s t : Batched) (f : Pass → Batched) → then s (then t (f t.pass)) ≡ then (then s t) (f (then s t).pass)
+pub then_assoc : (s t : Batched) (f : Pass → Batched) → then s (then t (f t.pass)) ≡ then (then s t) (f (then s t).pass)
 then_assoc s t f = go s.over t.over
   where
     go : (o u : Bool)
@@ -38,12 +38,12 @@ then_assoc s t f = go s.over t.over
 
 -- ---- batches
 
-none_left : (m : ℕ) (p : Pass) → batch_of m p [] ≡ nothing p
+pub none_left : (m : ℕ) (p : Pass) → batch_of m p [] ≡ nothing p
 unfolding batch_of
 none_left zero p = refl
 none_left (suc m) p = refl
 
-step : (n : ℕ) (p : Pass) (bytes : List ℕ) → 0 < length bytes
+pub step : (n : ℕ) (p : Pass) (bytes : List ℕ) → 0 < length bytes
     → batch_of (suc n) p bytes ≡ then (one_block p (first_block bytes)) (batch_of n (driven p (first_block bytes)).pass (behind_first bytes))
 unfolding batch_of
 step n p [] h = absurd (not-suc-le-zero h)
@@ -54,7 +54,7 @@ unfolding behind_first
 behind n bytes = let e : 512 + n * 512 ≡ suc n * 512 = omega arith in drop-drop (n * 512) 512 bytes ∙ ap (λ (k : ℕ). drop k bytes) e
 
 -- n blocks, and then m of the bytes that are left
-pub split : (n m : ℕ) (p : Pass) (bytes : List ℕ) → batch_of (n + m) p bytes ≡ then (batch_of n p bytes) (batch_of m (batch_of n p bytes).pass (drop (n * 512) bytes))
+split : (n m : ℕ) (p : Pass) (bytes : List ℕ) → batch_of (n + m) p bytes ≡ then (batch_of n p bytes) (batch_of m (batch_of n p bytes).pass (drop (n * 512) bytes))
 unfolding batch_of
 split zero m p bytes = ap (λ (k : ℕ). batch_of k p bytes) (zero-add m)
 split (suc n) m p [] = ap (λ (k : ℕ). batch_of k p []) (suc-add n m) ∙ sym (ap (λ (l : List ℕ). then (nothing p) (batch_of m p l)) (drop-nil (suc n * 512)) ∙ ap (then (nothing p)) (none_left m p))
@@ -67,24 +67,9 @@ split (suc n) m p (b ∷ bytes) =
     ∙ then_assoc (one_block p (first_block l)) t (λ (s : Pass). batch_of m s (drop (n * 512) (behind_first l)))
     ∙ ap (λ (r : List ℕ). then (batch_of (suc n) p l) (batch_of m (batch_of (suc n) p l).pass r)) (behind n l)
 
--- with no bytes left, or after a refusal, room for more blocks changes nothing
-pub stays : (n m : ℕ) (p : Pass) (bytes : List ℕ) → drop (n * 512) bytes ≡ [] → batch_of (n + m) p bytes ≡ batch_of n p bytes
+-- with no bytes left, room for more blocks changes nothing
+stays : (n m : ℕ) (p : Pass) (bytes : List ℕ) → drop (n * 512) bytes ≡ [] → batch_of (n + m) p bytes ≡ batch_of n p bytes
 stays n m p bytes e = split n m p bytes ∙ rw (e, none_left) (then-nothing (batch_of n p bytes))
-
-pub stays_over : (n m : ℕ) (p : Pass) (bytes : List ℕ) → (batch_of n p bytes).over ≡ true → batch_of (n + m) p bytes ≡ batch_of n p bytes
-stays_over n m p bytes e = split n m p bytes ∙ rw e
-
--- one block more
-pub one_more : (n : ℕ) (p : Pass) (bytes : List ℕ) → 0 < length (drop (n * 512) bytes)
-    → batch_of (n + 1) p bytes ≡ then (batch_of n p bytes) (one_block (batch_of n p bytes).pass (first_block (drop (n * 512) bytes)))
-one_more n p bytes h =
-    let t : Batched = batch_of n p bytes in
-    let l : List ℕ = drop (n * 512) bytes in
-    split n 1 p bytes
-    ∙ ap (then t) (step 0 t.pass l h ∙ ap (then (one_block t.pass (first_block l))) (nought (driven t.pass (first_block l)).pass (behind_first l)) ∙ then-nothing (one_block t.pass (first_block l)))
-  where
-    nought : (q : Pass) (l : List ℕ) → batch_of 0 q l ≡ nothing q
-    nought q l = unfold batch_of in refl
 
 -- the bytes behind n whole blocks are not seen by n blocks
 prefix : (n : ℕ) (p : Pass) (a b : List ℕ) → n * 512 ≤ length a → batch_of n p (a ++ b) ≡ batch_of n p a

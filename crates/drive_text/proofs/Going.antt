@@ -1,45 +1,65 @@
--- What holds at each turn of the loop of `drive_batch`: i blocks are driven, and their text is in place. Assumes nothing.
-use Prim.Native.Nat.{ℕ, ◌+◌, ◌*◌, ◌-◌, ◌≤◌, ◌<◌, min}
+-- What holds at each turn of the loop of `drive_batch`: some blocks are driven, and what is left of the bytes is the rest of the batch. Assumes nothing.
+use Prim.Native.Nat.{ℕ, zero, suc, ◌+◌, ◌*◌, ◌/◌, ◌≤◌, ◌<◌, min}
 use mathlib.Core.Path.{◌≡◌, refl, sym, ap, ◌∙◌}
-use mathlib.Core.Bool.{Bool, true, false, not, ◌&&◌, false≢true}
+use mathlib.Core.Bool.{Bool, true, false}
 use mathlib.Core.List.{List, ◌++◌, append-nil}
 use native.Mathlib.Omega.{arith}
 use lib.Dec.{ltb}
-use borrow.Author.Tests.{ltb-true, ltb-false}
-use lib.ListN.{length, take, drop, length-append, length-take, length-drop, take-append-drop, drop_of_length-le}
+use lib.ListN.{length, take, drop, length-append}
 use lib.Seq.{take-append_seam, drop-append_seam, drop-append-add, drop-drop}
-use Rattle.text_pieces.specs.Puts.{Within}
-use Rattle.text_pieces.proofs.Placing.{within}
-use Rattle.block_order.specs.Order.{goes_on}
+use Rattle.std.proofs.lemmas.List.{take_min, drop_min, nil_from_length}
+use Rattle.std.proofs.Common.{rules}
+use borrow.Author.Tests.{tests}
+use Rattle.line_text.specs.Text.{line_text}
 use Rattle.drive_pass.specs.declared.Pass.{Pass}
+use Rattle.drive_blocks.specs.Blocks.{driven}
+use Rattle.driven_text.specs.Written.{behind, end_of, written_behind}
 use Rattle.driven_text.specs.declared.Written.{Written}
 use Rattle.drive_text.specs.Written.{written, block_text}
-use Rattle.drive_text.specs.Batch.{first_block, Batched, one_block, then, batch_of, text_of, answer_of, next_of}
-use Rattle.drive_text.proofs.Batches.{one_more, stays, stays_over, text_of_append}
+use Rattle.drive_text.specs.Batch.{first_block, behind_first, Batched, nothing, one_block, then, batch_of, batch_into, text_of, answer_of}
+use Rattle.drive_text.proofs.Batches.{then-nothing, then_assoc, step, text_of_append}
 
--- answer and text are those of the batch of i blocks; the bytes from start on are left
-pub record Going (p : Pass) (bytes out₀ : List ℕ) (i start : ℕ) (w : Written) (out : List ℕ) : Type 0 where
-  pub answer : w ≡ answer_of (batch_of i p bytes)
-  pub text : out ≡ text_of (batch_of i p bytes).lines ++ drop w.len out₀
-  pub left : drop start bytes ≡ drop (i * 512) bytes
-  pub within : start ≤ length bytes
-  pub small : w.len ≤ i * 128
+-- w and out are answer and text of the blocks so far; up to n blocks more, of the bytes that are left, make the batch
+pub record Going (p : Pass) (bytes out₀ : List ℕ) (n : ℕ) (left : List ℕ) (w : Written) (out : List ℕ) : Type 0 where
+  pub so_far : Batched
+  pub answer : w ≡ answer_of so_far
+  pub text : out ≡ text_of so_far.lines ++ drop w.len out₀
+  pub whole : batch_into out₀ p bytes ≡ then so_far (batch_of n so_far.pass left)
+  pub room : w.len + n * 128 ≤ length out₀
   pub same : length out ≡ length out₀
 
-pub begin : (p : Pass) (bytes out : List ℕ) → Going p bytes out 0 0 (record { pass = p; len = 0; refused = false }) out
-unfolding batch_of answer_of text_of
-begin p bytes out = record { answer = refl; text = refl; left = refl; within = omega arith; small = omega arith; same = refl }
-
--- ---- the block at the start of a list, cut where the list ends
-
-cut_take : (l : List ℕ) → take (min 512 (length l)) l ≡ first_block l
-unfolding first_block
-cut_take l = ap (λ (k : ℕ). take k l) (sym (length-take 512 l)) ∙ ap (take (length (take 512 l))) (sym (take-append-drop 512 l)) ∙ take-append_seam (take 512 l) (drop 512 l)
-
-cut_drop : (l : List ℕ) → drop (min 512 (length l)) l ≡ drop 512 l
-cut_drop l = ap (λ (k : ℕ). drop k l) (sym (length-take 512 l)) ∙ ap (drop (length (take 512 l))) (sym (take-append-drop 512 l)) ∙ drop-append_seam (take 512 l) (drop 512 l)
+pub begin : (p : Pass) (bytes out : List ℕ) → Going p bytes out (length out / 128) bytes (record { pass = p; len = 0; refused = false }) out
+unfolding batch_into answer_of text_of
+begin p bytes out = record { so_far = nothing p; answer = refl; text = refl; whole = refl; room = omega arith; same = refl }
 
 -- ---- a turn
+
+-- the piece that is cut off the front is the first block
+module _ (block others : List ℕ) (e : length block ≡ min 512 (length (block ++ others))) where
+  first_is : first_block (block ++ others) ≡ block
+  unfolding first_block
+  first_is = sym (take_min 512 (block ++ others)) ∙ rw (← e) (take-append_seam block others)
+
+  behind_is : behind_first (block ++ others) ≡ others
+  unfolding behind_first
+  behind_is = sym (drop_min 512 (block ++ others)) ∙ rw (← e) (drop-append_seam block others)
+
+-- one block more, its line behind n bytes
+unfoldable next_of : Pass → ℕ → List ℕ → Written
+next_of p n block = record { pass = (written p block).pass; len = n + (written p block).len; refused = (written p block).refused }
+
+-- where there is room for a line
+module _ (p : Pass) (block out : List ℕ) (at : ℕ) (h : at + 128 ≤ length out) where
+  has_room : ltb (length out) (at + 128) ≡ false
+  has_room = search (rules, tests)
+
+  next_is : written_behind (length out) at (driven p block) ≡ next_of p at block
+  unfolding written_behind end_of next_of written block_text
+  next_is = rw has_room refl
+
+  text_is : behind out at (line_text (driven p block).line) ≡ take at out ++ block_text p block ++ drop (next_of p at block).len out
+  unfolding behind next_of written block_text
+  text_is = rw has_room refl
 
 -- after an accepted block, one more
 module _ (t : Batched) (block out out₀ : List ℕ) (o : t.over ≡ false) where
@@ -60,75 +80,50 @@ module _ (t : Batched) (block out out₀ : List ℕ) (o : t.over ≡ false) wher
       let n = length (block_text t.pass block) in
       rw (text_more, e, take-append_seam s (drop (length s) out₀), drop-append-add s (drop (length s) out₀) n, drop-drop n (length s) out₀) refl
 
-module _ (p : Pass) (bytes out₀ out : List ℕ) (i start end : ℕ) (w : Written) (g : Going p bytes out₀ i start w out) where
-  -- the batch so far is over where the answer says so
-  pub over_is : (o : Bool) → w.refused ≡ o → (batch_of i p bytes).over ≡ o
+none : (n : ℕ) (p : Pass) (bytes : List ℕ) → (0 < n → length bytes ≡ 0) → batch_of n p bytes ≡ nothing p
+unfolding batch_of
+none zero p bytes h = refl
+none (suc n) p bytes h = rw (nil_from_length bytes (h (omega arith))) refl
+
+module _ {p : Pass} {bytes out₀ out left : List ℕ} {n : ℕ} {w : Written} (g : Going p bytes out₀ n left w out) where
+  -- the blocks so far are over where the answer says so
+  over_is : (o : Bool) → w.refused ≡ o → g.so_far.over ≡ o
   unfolding answer_of
   over_is o e = sym (ap (λ (a : Written). a.refused) g.answer) ∙ e
 
-  ahead : length (drop start bytes) ≡ length bytes - start
-  ahead = length-drop start bytes
-
-  pub turn : (r : Written) (after : List ℕ) → w.refused ≡ false → start < length bytes → end ≡ start + min 512 (length bytes - start) → end ≤ length bytes
-      → r ≡ next_of w.pass w.len (take (end - start) (drop start bytes))
-      → after ≡ take w.len out ++ block_text w.pass (take (end - start) (drop start bytes)) ++ drop r.len out
-      → r.len ≤ w.len + 128 → length after ≡ length out → Going p bytes out₀ (i + 1) end r after
-  turn r after o h e k a u s l =
-      let t = batch_of i p bytes in
-      let n : end - start ≡ min 512 (length (drop start bytes)) = rw ahead (omega (arith, e)) in
-      let block : take (end - start) (drop start bytes) ≡ first_block (drop (i * 512) bytes) = rw n (cut_take (drop start bytes)) ∙ ap first_block g.left in
-      let some : 0 < length (drop (i * 512) bytes) = rw (← g.left, ahead) (omega arith) in
-      let more = one_more i p bytes some in
-      let going = over_is false o in
-      let next : (i + 1) * 512 ≡ i * 512 + 512 = omega arith in
-      let answer : r ≡ answer_of (batch_of (i + 1) p bytes) = a ∙ rw (block, g.answer, more) (answer_more t (first_block (drop (i * 512) bytes)) out out₀ going) in
+  pub turn : (m : ℕ) (block others : List ℕ) (r : Written) (after : List ℕ) → w.refused ≡ false
+      → m + 1 ≡ n → left ≡ block ++ others → length block ≡ min 512 (length left) → 0 < length left
+      → r ≡ written_behind (length out) w.len (driven w.pass block) → after ≡ behind out w.len (line_text (driven w.pass block).line)
+      → r.len ≤ w.len + 128 → length after ≡ length out → Going p bytes out₀ m others r after
+  turn m block others r after f k l e some a u s z =
+      let t = g.so_far in
+      let o = over_is false f in
+      let count : n ≡ suc m = omega arith in
+      let fits : w.len + 128 ≤ length out = omega (arith, g.room, g.same, k) in
+      let more : r ≡ next_of w.pass w.len block = a ∙ next_is w.pass block out w.len fits in
+      let first : first_block left ≡ block = rw l (first_is block others (rw l at e)) in
+      let others_are : behind_first left ≡ others = rw l (behind_is block others (rw l at e)) in
+      let answer : r ≡ answer_of (then t (one_block t.pass block)) = more ∙ ap (λ (v : Written). next_of v.pass v.len block) g.answer ∙ answer_more t block out out₀ o in
+      let next : batch_of n t.pass left ≡ then (one_block t.pass block) (batch_of m (one_block t.pass block).pass others) =
+      ap (λ (j : ℕ). batch_of j t.pass left) count ∙ step m t.pass left some ∙ rw (first, others_are) refl in
       record {
+        so_far = then t (one_block t.pass block);
         answer = answer;
-        text = u ∙ rw (a, block, g.answer, more) (out_more t (first_block (drop (i * 512) bytes)) out out₀ going (g.text ∙ rw g.answer refl));
-        left = rw (e, ← ahead, ← drop-drop, cut_drop, g.left, drop-drop, next) refl;
-        within = k;
-        small = omega arith;
-        same = l ∙ g.same;
+        text = u ∙ text_is w.pass block out w.len fits ∙ rw (more, g.answer) (out_more t block out out₀ o (g.text ∙ rw g.answer refl));
+        whole = g.whole ∙ ap (then t) next ∙ then_assoc t (one_block t.pass block) (λ (q : Pass). batch_of m q others);
+        room = omega arith;
+        same = z ∙ g.same;
       }
 
-  -- ---- the end, where there is room for n blocks; the lent bytes stay
+  -- ---- the end
 
-  pub ended : (n : ℕ) → i * 128 ≤ length out₀ → batch_of n p bytes ≡ batch_of i p bytes
-      → (w ≡ answer_of (batch_of n p bytes)) × ((out ≡ text_of (batch_of n p bytes).lines ++ drop w.len out₀) × (Within w.len out × (bytes ≡ bytes)))
-  ended n h e =
-      let fits : w.len ≤ length out = omega arith in
-      rw e (g.answer, (g.text, (within _ _ fits, refl)))
+  ended : batch_into out₀ p bytes ≡ g.so_far → (w ≡ answer_of (batch_into out₀ p bytes)) × (out ≡ text_of (batch_into out₀ p bytes).lines ++ drop w.len out₀)
+  ended e = rw e (g.answer, g.text)
 
-  -- a refusal, or no bytes left
-  refused : (n : ℕ) → i ≤ n → w.refused ≡ true → batch_of n p bytes ≡ batch_of i p bytes
-  refused n h o =
-      let e : n ≡ i + (n - i) = omega arith in
-      ap (λ (k : ℕ). batch_of k p bytes) e ∙ stays_over i (n - i) p bytes (over_is true o)
+  -- a refusal
+  pub stopped : w.refused ≡ true → (w ≡ answer_of (batch_into out₀ p bytes)) × (out ≡ text_of (batch_into out₀ p bytes).lines ++ drop w.len out₀)
+  stopped o = ended (g.whole ∙ rw (over_is true o) refl)
 
-  emptied : (n : ℕ) → i ≤ n → length bytes ≤ start → batch_of n p bytes ≡ batch_of i p bytes
-  emptied n h k =
-      let e : n ≡ i + (n - i) = omega arith in
-      ap (λ (k : ℕ). batch_of k p bytes) e ∙ stays i (n - i) p bytes (sym g.left ∙ drop_of_length-le bytes k)
-
-  -- whatever ends the loop, more room changes nothing
-  pub stopped : (n : ℕ) (on : Bool) → i ≤ n → on ≡ goes_on i n w.refused start (length bytes) → on ≡ false → batch_of n p bytes ≡ batch_of i p bytes
-  unfolding goes_on
-  stopped n on h e f = go (ltb i n) w.refused (ltb start (length bytes)) (ltb-false i n) (λ r. refused n h r) (λ l. emptied n h (ltb-false start (length bytes) l)) (sym e ∙ f)
-    where
-      go : (room over left : Bool) → (room ≡ false → n ≤ i) → (over ≡ true → batch_of n p bytes ≡ batch_of i p bytes) → (left ≡ false → batch_of n p bytes ≡ batch_of i p bytes)
-          → ((room && not over) && left) ≡ false → batch_of n p bytes ≡ batch_of i p bytes
-      go false over left f r m e = let s : n ≡ i = omega (arith, h, f refl) in ap (λ (k : ℕ). batch_of k p bytes) s
-      go true true left f r m e = r refl
-      go true false false f r m e = m refl
-      go true false true f r m e = let z : true ≡ false = e in cc
-
--- what the loop's test says
-pub going_on : (i room start len : ℕ) (over on : Bool) → on ≡ goes_on i room over start len → on ≡ true → (i < room) × ((over ≡ false) × (start < len))
-unfolding goes_on
-going_on i room start len over on e t = go (ltb i room) over (ltb start len) (ltb-true i room) (ltb-true start len) (sym e ∙ t)
-  where
-    go : (a o l : Bool) → (a ≡ true → i < room) → (l ≡ true → start < len) → ((a && not o) && l) ≡ true → (i < room) × ((o ≡ false) × (start < len))
-    go true false true f g e = (f refl, (refl, g refl))
-    go true false false f g e = absurd (false≢true e)
-    go true true l f g e = absurd (false≢true e)
-    go false o l f g e = absurd (false≢true e)
+  -- no room or no bytes left
+  pub emptied : (0 < n → length left ≡ 0) → (w ≡ answer_of (batch_into out₀ p bytes)) × (out ≡ text_of (batch_into out₀ p bytes).lines ++ drop w.len out₀)
+  emptied e = ended (g.whole ∙ ap (then g.so_far) (none n g.so_far.pass left e) ∙ then-nothing g.so_far)

@@ -1,12 +1,11 @@
 -- A run of bytes, driven block by block: document 01, 'Cases', program `drive`. Assumes nothing.
-use Rattle.std.specs.Prelude.{ℕ, zero, suc, ◌+◌, ◌/◌, Bool, false, cond, List, [], ◌∷◌, ◌++◌, length, take, drop}
+use Rattle.std.specs.Prelude.{ℕ, zero, suc, ◌/◌, Bool, false, cond, List, [], ◌∷◌, ◌++◌, length, take, drop}
 use Rattle.line_text.specs.declared.Line.{Line}
 use Rattle.line_text.specs.Text.{line_text}
 use Rattle.drive_pass.specs.declared.Pass.{Pass}
 use Rattle.drive_blocks.specs.Blocks.{driven}
 use Rattle.driven_text.specs.declared.Written.{Written}
 use Rattle.driven_text.specs.Written.{is_refused}
-use Rattle.drive_text.specs.Written.{written}
 
 -- the first block of the bytes, shorter than 512 where they are, and what stands behind it
 unfoldable pub first_block : List ℕ → List ℕ
@@ -56,7 +55,3 @@ batch_into out p bytes = batch_of (length out / 128) p bytes
 -- the pass, the length of the text, and whether a refusal ended the reading
 unfoldable pub answer_of : Batched → Written
 answer_of t = record { pass = t.pass; len = length (text_of t.lines); refused = t.over }
-
--- one block more, its line behind n bytes
-unfoldable pub next_of : Pass → ℕ → List ℕ → Written
-next_of p n block = record { pass = (written p block).pass; len = n + (written p block).len; refused = (written p block).refused }

@@ -2,24 +2,25 @@
 use Rattle.std.proofs.Common.{◌≡◌, [], ◌∷◌, map, refl}
 use lib.Ieee.{of_int, of_bits, to_unsigned, add, mul, div}
 use Rattle.tick_length.specs.TickLength.{micros_of}
-use Rattle.encoder_lag.specs.declared.FirstOrderLagAnswer.TheVariants.{Made}
-use Rattle.encoder_lag.specs.EncoderLag.{duration_to_secs, horizon_over, n_steps_of, dt_of, new_lag, lag_of, refusal_number}
+use Rattle.std.specs.Prelude.{Ok}
+use Rattle.refusal.specs.Refusal.{number_of}
+use Rattle.encoder_lag.specs.EncoderLag.{duration_to_secs, horizon_over, n_steps_of, dt_of, new_lag, lag_of}
 
 -- k 0 and 65: 1
-pub zero_refused : refusal_number (lag_of 0) ≡ 1
+pub zero_refused : number_of (lag_of 0) ≡ 1
 unfolding lag_of
 zero_refused = refl
 
-pub sixty_five_refused : refusal_number (lag_of 65) ≡ 1
+pub sixty_five_refused : number_of (lag_of 65) ≡ 1
 unfolding lag_of
 sixty_five_refused = refl
 
 -- k 1 and 64 accepted
-pub one_made : lag_of 1 ≡ Made (new_lag 1)
+pub one_made : lag_of 1 ≡ Ok (new_lag 1)
 unfolding lag_of
 one_made = refl
 
-pub sixty_four_made : lag_of 64 ≡ Made (new_lag 64)
+pub sixty_four_made : lag_of 64 ≡ Ok (new_lag 64)
 unfolding lag_of
 sixty_four_made = refl
 

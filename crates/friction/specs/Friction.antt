@@ -6,7 +6,9 @@ use Rattle.float_hypot.specs.Hypot.{hypotenuse}
 use Rattle.na.specs.declared.Vector3f.{Vector3f}
 use Rattle.na.specs.declared.Vector6f.{Vector6f}
 use Rattle.na.specs.Vector.{zero_float}
+use Rattle.matrices.specs.declared.rotation.Rotation.{Rotation}
 use Rattle.matrices.specs.Rotation.{to_local}
+use Rattle.setpoints.specs.declared.ManeuverSetpoints.{ManeuverSetpoints}
 use Rattle.params.specs.Params.{friction_comp_gating}
 
 -- 'Steer': gates 0.1 for the linear velocity and 0.5 for the linear acceleration, both inclusive
@@ -22,11 +24,11 @@ unfoldable pub kept_if : Bool → Float → Float
 kept_if on x = cond on x zero_float
 
 -- 'Steer': the twist in local axes, each entry kept where its gate is on; the gates judge the estimate's velocity and the acceleration, in local axes too
-unfoldable pub friction_twist : Float → Float → Vector6f → Vector3f → Vector3f → Vector3f
-friction_twist c s estimate twist accel =
-    let vel = to_local c s estimate.twist in
-    let target = to_local c s twist in
-    let command = to_local c s accel in
+unfoldable pub friction_twist : Rotation → Vector6f → ManeuverSetpoints → Vector3f
+friction_twist heading estimate setpoints =
+    let vel = to_local heading estimate.twist in
+    let target = to_local heading setpoints.body_twist in
+    let command = to_local heading setpoints.body_accel in
     record {
       x = kept_if (linear_comp_on vel command) target.x;
       y = kept_if (linear_comp_on vel command) target.y;

@@ -6,9 +6,10 @@ ghost use Rattle.friction.specs.Friction.{linear_comp_on, angular_comp_on, kept_
 
 use float_bits::abs;
 use float_hypot::hypot;
-use matrices::rotation::rotate_to_local;
+use matrices::rotation::Rotation;
 use na::{Vector3f, Vector6f};
 use params::FRICTION_COMP_GATING;
+use setpoints::ManeuverSetpoints;
 
 #[tactic(auto, unfolding(crate::specs::Friction::linear_comp_on))]
 fn linear_comp_on(vel: Vector3f, accel: Vector3f) -> bool
@@ -33,20 +34,18 @@ fn kept_if(on: bool, x: f32) -> f32
     if on { x } else { 0.0 }
 }
 
-// c and s are the cosine and sine of the estimate's heading.
+// `heading` is the estimate's.
 #[tactic(auto, unfolding(crate::specs::Friction::friction_twist))]
 pub fn friction_twist(
-    c: f32,
-    s: f32,
+    heading: Rotation,
     estimate: Vector6f,
-    body_twist: Vector3f,
-    body_accel: Vector3f,
+    setpoints: ManeuverSetpoints,
 ) -> Vector3f
-    ensures { result ≡ friction_twist c s estimate body_twist body_accel }
+    ensures { result ≡ friction_twist heading estimate setpoints }
 {
-    let est_twist_local = rotate_to_local(c, s, estimate.twist);
-    let tgt_twist_local = rotate_to_local(c, s, body_twist);
-    let cmd_accel_local = rotate_to_local(c, s, body_accel);
+    let est_twist_local = heading.to_local(estimate.twist);
+    let tgt_twist_local = heading.to_local(setpoints.body_twist);
+    let cmd_accel_local = heading.to_local(setpoints.body_accel);
     let linear = linear_comp_on(est_twist_local, cmd_accel_local);
     let angular = angular_comp_on(est_twist_local, cmd_accel_local);
     Vector3f {

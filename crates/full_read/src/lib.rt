@@ -11,6 +11,7 @@ use std::io::Read;
 
 // Reads until buf is full or the input ends, and answers how many bytes it put at the start of buf.
 // The input is at its end where they are fewer than buf has room for.
+// std's read_exact does not say what it took before an Err, and read_to_end fills a Vec.
 pub fn read_full<R: Read>(reader: &mut R, buf: &mut [u8]) -> io::Result<usize>
     ensures bound { ReadsAtMost result buf.new }
     ensures bytes { IfOk result (λ n. Consumes (R.remaining reader.old) (R.remaining reader.new) (take n buf.new)) }

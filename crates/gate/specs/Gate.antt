@@ -1,5 +1,5 @@
 -- Document 01, 'Gate': seeding, tracking, and a tick without a sighting. Every step is rounded to binary32. Assumes nothing.
-use Rattle.std.specs.Prelude.{Bool, cond, ltb, Float}
+use Rattle.std.specs.Prelude.{Bool, cond, ltb, Float, Option, None, Some}
 use Rattle.std.specs.Float.{binary32}
 use Rattle.std.specs.Float.Ieee.{add, sub, mul, lt, le, eq}
 use Rattle.float_hypot.specs.Hypot.{hypotenuse}
@@ -54,6 +54,11 @@ unfoldable pub quiet : VisionGateState → Float → VisionGateState
 quiet (Gate.Seeding s) dt = Gate.Seeding s
 quiet (Gate.Tracking t) dt = Gate.Tracking (add binary32 t dt)
 
--- a tick's outcome and the gate after it; `seen` says whether there is a sighting
-unfoldable pub judged : VisionGateState → Bool → Vector3f → Vector6f → Float → Judgement
-judged g seen v p dt = cond seen (sighting_judged g v p dt) (record { action = NoVision; gate = quiet g dt })
+-- the sighting, if there is one
+abbrev pub sighting_of : Bool → Vector3f → Option Vector3f
+sighting_of seen v = cond seen (Some v) None
+
+-- a tick's outcome and the gate after it
+unfoldable pub judged : VisionGateState → Option Vector3f → Vector6f → Float → Judgement
+judged g None p dt = record { action = NoVision; gate = quiet g dt }
+judged g (Some v) p dt = sighting_judged g v p dt

@@ -80,33 +80,26 @@ fn judge_tracking(t: f32, dist: f32, dt: f32) -> Judgement
 }
 
 impl VisionGateState {
-    // The judgement of one tick; `seen` says whether there is a sighting. Without one the radius of a
-    // tracking gate grows on.
+    // The judgement of one tick. Without a sighting the radius of a tracking gate grows on.
     #[tactic(auto, unfolding(crate::specs::Gate::judged, crate::specs::Gate::sighting_judged, crate::specs::Gate::quiet, crate::specs::Gate::distance))]
-    pub fn judge(self, seen: bool, sighting: Vector3f, predicted: Vector6f, dt: f32) -> Judgement
-        ensures { result ≡ judged self seen sighting predicted dt }
+    pub fn judge(self, sighting: Option<Vector3f>, predicted: Vector6f, dt: f32) -> Judgement
+        ensures { result ≡ judged self sighting predicted dt }
     {
-        match self {
-            VisionGateState::Seeding(s) => {
-                if seen {
-                    return judge_seeding(s.gather(sighting));
-                }
-                return Judgement {
-                    action: GateAction::NoVision,
-                    gate: VisionGateState::Seeding(s),
-                };
+        match (self, sighting) {
+            (VisionGateState::Seeding(s), Some(v)) => judge_seeding(s.gather(v)),
+            (VisionGateState::Tracking(t), Some(v)) => {
+                let x = v.x - predicted.pose.x;
+                let y = v.y - predicted.pose.y;
+                judge_tracking(t, hypot(x, y), dt)
             }
-            VisionGateState::Tracking(t) => {
-                if seen {
-                    let x = sighting.x - predicted.pose.x;
-                    let y = sighting.y - predicted.pose.y;
-                    return judge_tracking(t, hypot(x, y), dt);
-                }
-                return Judgement {
-                    action: GateAction::NoVision,
-                    gate: VisionGateState::Tracking(t + dt),
-                };
-            }
+            (VisionGateState::Seeding(s), None) => Judgement {
+                action: GateAction::NoVision,
+                gate: VisionGateState::Seeding(s),
+            },
+            (VisionGateState::Tracking(t), None) => Judgement {
+                action: GateAction::NoVision,
+                gate: VisionGateState::Tracking(t + dt),
+            },
         }
     }
 }

@@ -5,7 +5,7 @@ ghost use Rattle.std.specs.Prelude.{◌≡◌};
 ghost use Rattle.gate_action.specs.Outcome.{letter_of, takes, overwrites};
 
 // Document 01's outcomes, in its order.
-#[derive(Clone, Copy)]
+#[derive(Clone, Copy, Debug, PartialEq, Eq)]
 pub enum GateAction {
     // quiet, Q
     NoVision,
@@ -46,31 +46,16 @@ impl GateAction {
     pub fn takes(self) -> bool
         ensures { result ≡ takes self }
     {
-        match self {
-            GateAction::NoVision => false,
-            GateAction::Accumulate => false,
-            GateAction::SeedComplete => true,
-            GateAction::SeedReset => false,
-            GateAction::Accept => true,
-            GateAction::AcceptJump => true,
-            GateAction::FirstReject => false,
-            GateAction::Reject => false,
-        }
+        matches!(
+            self,
+            GateAction::SeedComplete | GateAction::Accept | GateAction::AcceptJump
+        )
     }
 
     // Whether the prediction is overwritten, and trajectory, previous command and PID memory dropped.
     pub fn overwrites(self) -> bool
         ensures { result ≡ overwrites self }
     {
-        match self {
-            GateAction::NoVision => false,
-            GateAction::Accumulate => false,
-            GateAction::SeedComplete => true,
-            GateAction::SeedReset => false,
-            GateAction::Accept => false,
-            GateAction::AcceptJump => true,
-            GateAction::FirstReject => false,
-            GateAction::Reject => false,
-        }
+        matches!(self, GateAction::SeedComplete | GateAction::AcceptJump)
     }
 }

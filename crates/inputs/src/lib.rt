@@ -2,6 +2,7 @@
 #![tactic(auto)]
 
 use cmd::CommandWords;
+use matrices::rotation::Rotation;
 use matrices::{Matrix3, Matrix3x4, Matrix4x3};
 use memory::Sample;
 use na::{Vector3f, Vector4f, Vector6f};
@@ -35,9 +36,8 @@ pub struct SteerInput {
     // What the tracked plan gives for the next one.
     pub next: Sample,
     pub wheel_vel_meas: Vector4f,
-    // Of the estimate's heading.
-    pub cos: f32,
-    pub sin: f32,
+    // By the estimate's heading.
+    pub heading: Rotation,
     pub stop: bool,
     pub planner_failed: bool,
 }

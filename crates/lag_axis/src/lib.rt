@@ -23,10 +23,8 @@ fn iterate(n: usize, one_minus_a: f32, target: f32, desired: f32) -> f32
     ensures { result ≡ iterated n (lag_turn one_minus_a target) desired }
 {
     let mut cmd = desired;
-    let mut i: usize = 0;
-    while i < n {
+    for _ in 0..n {
         cmd = one_minus_a * cmd + target;
-        i += 1;
     }
     cmd
 }

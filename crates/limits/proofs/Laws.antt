@@ -2,7 +2,7 @@
 -- Assumes nothing.
 use mathlib.Core.Path.{◌≡◌, refl}
 use mathlib.Core.Logic.{◌⊎◌}
-use mathlib.Core.Bool.{Bool, true, false, not, ◌||◌, true≢false}
+use mathlib.Core.Bool.{Bool, true, false, not, ◌&&◌, ◌||◌, true≢false}
 use lib.Dec.{T}
 use lib.Ieee.{Float, nan, lt, le, eq, ne, neg, of_bits}
 use Rattle.float_clamp.proofs.Laws.{clamp_within_within}
@@ -31,6 +31,13 @@ unfolding accel_clamped lt eq le neg of_bits
 accel_bounded v = clamped_bounded body_accel_clamp_linear body_accel_clamp_angular v tt tt
 
 -- ---- the mark
+
+-- vectors are not equal where an entry is not
+pub some_differs : (p q r : Bool) → not (p && (q && r)) ≡ (not p || not q || not r)
+some_differs true true true = refl
+some_differs true true false = refl
+some_differs true false r = refl
+some_differs false q r = refl
 
 -- none of the three is false
 all_true : (p q r : Bool) → (not p || not q || not r) ≡ false → (p ≡ true) × ((q ≡ true) × (r ≡ true))

@@ -23,12 +23,14 @@ pub struct Clamped {
 fn clamp_to(linear: f32, angular: f32, v: Vector3f) -> Clamped
     ensures { result ≡ clamped_to linear angular v }
 {
-    let x = clamp_within(v.x, linear);
-    let y = clamp_within(v.y, linear);
-    let z = clamp_within(v.z, angular);
+    let value = Vector3f {
+        x: clamp_within(v.x, linear),
+        y: clamp_within(v.y, linear),
+        z: clamp_within(v.z, angular),
+    };
     Clamped {
-        value: Vector3f { x, y, z },
-        clamped: (x != v.x) | (y != v.y) | (z != v.z),
+        value,
+        clamped: value != v,
     }
 }
 

@@ -2,19 +2,20 @@
 // into a lent array that can't be too short; what stands behind it there stays.
 #![tactic(auto)]
 
-ghost use Rattle.std.specs.Prelude.{◌≤◌, ◌≡◌, ◌++◌, length, drop};
-ghost use Rattle.text_pieces.specs.Puts.{Puts, Within};
+ghost use Rattle.std.specs.Prelude.{◌≤◌, ◌≡◌, ◌++◌, length, take, drop};
+ghost use Rattle.text_pieces.specs.Puts.{Within};
 ghost use Rattle.line_text.specs.Text.{ending_text, line_text, refused_text, tick_text};
 
-use marks_text::put_marks;
+use marks_text::marks;
 use na::Vector4f;
-use text_pieces::{put_byte, put_decimal, put_number};
-use wheels_text::put_wheels;
+use text_pieces::Text;
+use wheels_text::push_wheels;
 
 // How many bytes hold any line.
 pub const LINE: usize = 128;
 
-// What ends a tick's line: its wheel speeds, or the refusal that ended the tick.
+// What ends a tick's line: its wheel speeds, or the refusal that ended the tick. (A refusal is any number
+// of 8 bits here and below: an enum of refusals would ask more of whoever writes a line.)
 #[derive(Clone, Copy)]
 pub enum Ending {
     Wheels(Vector4f),
@@ -46,55 +47,60 @@ pub enum Line {
 }
 
 // Puts the line at the start of buf, and answers how long it is. (`Within` is what `&buf[..r]` asks.)
-#[tactic(auto, using(text_pieces::proofs::Placing::whole, text_pieces::proofs::Placing::within, crate::proofs::Bound::tick_fits, crate::proofs::Bound::refused_fits), unfolding(crate::specs::Text::line_text))]
+#[tactic(auto, using(crate::proofs::Bound::line_kept))]
 pub fn write_line(buf: &mut [u8; 128], line: Line) -> usize
     ensures value { result ≡ length (line_text line) }
     ensures buf_after { buf.new ≡ line_text line ++ drop (length (line_text line)) buf.old }
     ensures upper_bound { (result ≤ 128) × Within result buf.new }
 {
+    let mut text = Text::new();
+    push_line(&mut text, line);
+    text.put(buf)
+}
+
+// A line behind what is there.
+#[tactic(auto, unfolding(crate::specs::Text::line_text))]
+fn push_line<const N: usize>(text: &mut Text<N>, line: Line)
+    ensures { text.new ≡ take N (text.old ++ line_text line) }
+{
     match line {
-        Line::Tick(t) => write_tick(buf, t),
-        Line::Refused(f) => write_refused(buf, f),
+        Line::Tick(t) => push_tick(text, t),
+        Line::Refused(f) => push_refused(text, f),
     }
 }
 
-// A tick's line, at place 0.
-#[tactic(auto, using(text_pieces::proofs::Placing::then), unfolding(crate::specs::Text::tick_text))]
-fn write_tick(buf: &mut [u8; 128], t: TickLine) -> usize
-    ensures puts { Puts buf.old 0 (tick_text t) buf.new result }
-    ensures buf_len { length buf.new ≡ 128 }
+// A tick's line.
+#[tactic(auto, using(text_pieces::proofs::Growing::growing), unfolding(crate::specs::Text::tick_text))]
+fn push_tick<const N: usize>(text: &mut Text<N>, t: TickLine)
+    ensures { text.new ≡ take N (text.old ++ tick_text t) }
 {
-    let at = put_decimal(buf, 0, t.number);
-    let at = put_marks(buf, at, t.letter, t.active, t.recovering);
-    let ending = t.ending;
-    let at = put_ending(buf, at, ending);
-    put_byte(buf, at, b'\n')
+    text.push_decimal(t.number);
+    text.push(&marks(t.letter, t.active, t.recovering));
+    push_ending(text, t.ending);
+    text.push(b"\n");
 }
 
-// A refused block's line, at place 0.
-#[tactic(auto, using(text_pieces::proofs::Placing::then), unfolding(crate::specs::Text::refused_text))]
-fn write_refused(buf: &mut [u8; 128], f: RefusedLine) -> usize
-    ensures puts { Puts buf.old 0 (refused_text f) buf.new result }
-    ensures buf_len { length buf.new ≡ 128 }
+// A refused block's line.
+#[tactic(auto, using(text_pieces::proofs::Growing::growing), unfolding(crate::specs::Text::refused_text))]
+fn push_refused<const N: usize>(text: &mut Text<N>, f: RefusedLine)
+    ensures { text.new ≡ take N (text.old ++ refused_text f) }
 {
-    let at = put_decimal(buf, 0, f.number);
-    let at = put_byte(buf, at, b' ');
-    let at = put_byte(buf, at, b'!');
-    let at = put_number(buf, at, f.refusal as u32);
-    put_byte(buf, at, b'\n')
+    text.push_decimal(f.number);
+    text.push(b" !");
+    text.push_number(f.refusal as u32);
+    text.push(b"\n");
 }
 
 // What ends a tick's line: the wheel speeds, or `E` and the refusal.
-#[tactic(auto, using(text_pieces::proofs::Placing::then), unfolding(crate::specs::Text::ending_text, crate::specs::Text::failed_text))]
-fn put_ending(buf: &mut [u8; 128], at: usize, ending: Ending) -> usize
-    ensures { Puts buf.old at (ending_text ending) buf.new result }
+#[tactic(auto, using(text_pieces::proofs::Growing::growing), unfolding(crate::specs::Text::ending_text, crate::specs::Text::failed_text))]
+fn push_ending<const N: usize>(text: &mut Text<N>, ending: Ending)
+    ensures { text.new ≡ take N (text.old ++ ending_text ending) }
 {
     match ending {
-        Ending::Wheels(v) => put_wheels(buf, at, v),
+        Ending::Wheels(v) => push_wheels(text, v),
         Ending::Failed(refusal) => {
-            let at = put_byte(buf, at, b' ');
-            let at = put_byte(buf, at, b'E');
-            put_decimal(buf, at, refusal as u32)
+            text.push(b" E");
+            text.push_decimal(refusal as u32);
         }
     }
 }

@@ -7,7 +7,7 @@ use lib.Dec.{eqb}
 use Rattle.na.specs.declared.Vector6f.{Vector6f}
 use Rattle.cmd.specs.declared.ManeuverCommand.{ManeuverCommand}
 use Rattle.memory.specs.declared.Sample.{Sample}
-use Rattle.memory.specs.declared.HeldSample.TheVariants.{Held}
+use Rattle.std.specs.Prelude.{Some}
 use Rattle.memory.specs.declared.Memory.{Memory}
 use Rattle.plan_answer.specs.declared.PlanAnswer.TheVariants.{Hold, NoVision, Keep, NewPlan}
 use Rattle.memory.specs.Memory.{empty_memory}
@@ -35,7 +35,7 @@ module _ (mode : ℕ) (halt recovering vision : Bool) (cmd : ManeuverCommand) (m
 
   -- while a sample is held, no new plan starts from the estimate: the seed is the sample's state
   pub seed_held : (s : Sample) (seed : Vector6f)
-      → (in_mode m mode prev).held ≡ Held s
+      → (in_mode m mode prev).held ≡ Some s
       → (decided mode halt recovering vision cmd m prev estimate).answer ≡ NewPlan seed
       → seed ≡ s.state
   unfolding decided hold maneuver_answer

@@ -1,9 +1,8 @@
 -- Document 01, 'The tick's four calls', Plan: the one decision over mode, halt, recovery and vision. Assumes nothing.
-use Rattle.std.specs.Prelude.{ℕ, Bool, true, false, cond, not, ◌||◌, eqb, ltb}
+use Rattle.std.specs.Prelude.{ℕ, Bool, cond, not, ◌||◌, eqb, ltb, Option, None, Some, is_none}
 use Rattle.na.specs.declared.Vector6f.{Vector6f}
 use Rattle.cmd.specs.declared.ManeuverCommand.{ManeuverCommand}
-use Rattle.memory.specs.declared.HeldSample.{HeldSample}
-use Rattle.memory.specs.declared.HeldSample.TheVariants.{Absent, Held}
+use Rattle.memory.specs.declared.Sample.{Sample}
 use Rattle.memory.specs.declared.Memory.{Memory}
 use Rattle.plan_answer.specs.declared.PlanAnswer.{PlanAnswer}
 use Rattle.plan_answer.specs.declared.PlanAnswer.TheVariants.{Hold, NoVision, Keep, NewPlan}
@@ -24,19 +23,14 @@ hold = record { answer = Hold; memory = empty_memory; prev_mode = 0 }
 unfoldable pub in_mode : Memory → ℕ → ℕ → Memory
 in_mode m mode prev = cond (eqb mode prev) m empty_memory
 
--- no sample is held
-abbrev pub none_held : HeldSample → Bool
-none_held Absent = true
-none_held (Held s) = false
-
 -- plan anew if none is held or the command changed
 abbrev pub plans_anew : Memory → ManeuverCommand → Bool
-plans_anew m cmd = none_held m.held || command_changed m.prev_cmd cmd
+plans_anew m cmd = is_none m.held || command_changed m.prev_cmd cmd
 
 -- the seed is the held sample's state, else the estimate
-abbrev pub seed_of : HeldSample → Vector6f → Vector6f
-seed_of Absent estimate = estimate
-seed_of (Held s) estimate = s.state
+abbrev pub seed_of : Option Sample → Vector6f → Vector6f
+seed_of None estimate = estimate
+seed_of (Some s) estimate = s.state
 
 -- modes 2 and 3: no vision without active vision, otherwise a new plan or keep
 unfoldable pub maneuver_answer : Memory → Bool → ManeuverCommand → Vector6f → PlanAnswer

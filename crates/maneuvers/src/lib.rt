@@ -7,7 +7,7 @@ ghost use Rattle.plan_answer.specs.Answer.{answer_number};
 
 use cmd::ManeuverCommand;
 use command_equality::command_changed;
-use memory::{HeldSample, Memory};
+use memory::Memory;
 use na::Vector6f;
 use plan_answer::PlanAnswer;
 
@@ -40,23 +40,16 @@ fn maneuver_answer(
 ) -> PlanAnswer
     ensures { result ≡ maneuver_answer memory vision_active cmd estimate }
 {
-    if vision_active {
-        let held = memory.held;
-        match held {
-            HeldSample::Absent => {
-                return PlanAnswer::NewPlan(estimate);
-            }
-            HeldSample::Held(sample) => {
-                let prev_cmd = memory.prev_cmd;
-                if command_changed(prev_cmd, cmd) {
-                    let state = sample.state;
-                    return PlanAnswer::NewPlan(state);
-                }
-                return PlanAnswer::Keep;
-            }
-        }
+    if !vision_active {
+        return PlanAnswer::NoVision;
     }
-    PlanAnswer::NoVision
+    match memory.held {
+        None => PlanAnswer::NewPlan(estimate),
+        Some(sample) if command_changed(memory.prev_cmd, cmd) => {
+            PlanAnswer::NewPlan(sample.state)
+        }
+        Some(_) => PlanAnswer::Keep,
+    }
 }
 
 // The one decision over mode, halt, recovery and vision.

@@ -1,48 +1,33 @@
 // Matrices by rows, and their products with a vector: each row's products summed from the left,
 // starting with the first one, zeros included.
-ghost use Rattle.std.specs.Prelude.{◌≡◌};
-ghost use Rattle.matrices.specs.Matrix.{product_of3, product_of3x4, product_of4x3};
+ghost use Rattle.std.specs.Prelude.{◌≡◌, ◌<◌, [], slice_index_or};
+ghost use Rattle.na.specs.Vector.{dot_of};
+ghost use Rattle.matrices.specs.Matrix.{product_of};
 
-use crate::{Matrix3, Matrix3x4, Matrix4x3};
-use na::{Vector3f, Vector4f};
-use vectors::{dot3, dot4};
+use std::array;
+use vectors::dot;
 
-impl Matrix3 {
-    #[tactic(auto, unfolding(crate::specs::Matrix::product_of3))]
-    pub fn mul(self, v: Vector3f) -> Vector3f
-        ensures { result ≡ product_of3 self v }
-    {
-        Vector3f {
-            x: dot3(self.r0, v),
-            y: dot3(self.r1, v),
-            z: dot3(self.r2, v),
-        }
-    }
+// R rows of C entries.
+#[derive(Clone, Copy)]
+pub struct Matrix<const R: usize, const C: usize> {
+    pub rows: [[f32; C]; R],
 }
 
-impl Matrix3x4 {
-    #[tactic(auto, unfolding(crate::specs::Matrix::product_of3x4))]
-    pub fn mul(self, v: Vector4f) -> Vector3f
-        ensures { result ≡ product_of3x4 self v }
-    {
-        Vector3f {
-            x: dot4(self.r0, v),
-            y: dot4(self.r1, v),
-            z: dot4(self.r2, v),
-        }
-    }
-}
+pub type Matrix3 = Matrix<3, 3>;
 
-impl Matrix4x3 {
-    #[tactic(auto, unfolding(crate::specs::Matrix::product_of4x3))]
-    pub fn mul(self, v: Vector3f) -> Vector4f
-        ensures { result ≡ product_of4x3 self v }
+pub type Matrix3x4 = Matrix<3, 4>;
+
+pub type Matrix4x3 = Matrix<4, 3>;
+
+impl<const R: usize, const C: usize> Matrix<R, C> {
+    pub fn mul(self, v: [f32; C]) -> [f32; R]
+        ensures { result ≡ product_of self.entry v.entry }
     {
-        Vector4f {
-            x: dot3(self.r0, v),
-            y: dot3(self.r1, v),
-            z: dot3(self.r2, v),
-            w: dot3(self.r3, v),
-        }
+        array::from_fn(
+            |i: usize| -> f32
+                requires { i < R }
+                ensures { result ≡ dot_of (slice_index_or self.rows i []) v }
+            { dot(self.rows[i], v) },
+        )
     }
 }

@@ -8,45 +8,17 @@ use cmd::ManeuverCommand;
 use na::{Vector3f, Vector6f};
 
 // A sample, a term of document 01: what a trajectory gives for one tick.
-#[derive(Clone, Copy)]
+#[derive(Clone, Copy, PartialEq)]
 pub struct Sample {
     pub state: Vector6f,
     pub accel: Vector3f,
 }
 
-// The Rust's `trajectory`, of which the tick sees one sample.
-#[derive(Clone, Copy)]
-pub enum HeldSample {
-    Absent,
-    Held(Sample),
-}
-
-#[derive(Clone, Copy)]
-pub enum PrevCommand {
-    Absent,
-    Was(ManeuverCommand),
-}
-
-#[derive(Clone, Copy)]
+#[derive(Clone, Copy, PartialEq)]
 pub struct Memory {
-    pub held: HeldSample,
-    pub prev_cmd: PrevCommand,
-}
-
-impl HeldSample {
-    // The held sample, or the fresh one where there is none.
-    pub fn held_or(self, fresh: Sample) -> Sample
-        ensures { result ≡ held_or self fresh }
-    {
-        match self {
-            HeldSample::Absent => {
-                return fresh;
-            }
-            HeldSample::Held(sample) => {
-                return sample;
-            }
-        }
-    }
+    // The Rust's `trajectory`, of which the tick sees one sample.
+    pub held: Option<Sample>,
+    pub prev_cmd: Option<ManeuverCommand>,
 }
 
 impl Memory {
@@ -56,8 +28,8 @@ impl Memory {
         ensures { result ≡ empty_memory }
     {
         Memory {
-            held: HeldSample::Absent,
-            prev_cmd: PrevCommand::Absent,
+            held: None,
+            prev_cmd: None,
         }
     }
 
@@ -66,11 +38,7 @@ impl Memory {
     pub fn drop_trajectory(self) -> Memory
         ensures { result ≡ trajectory_dropped self }
     {
-        let prev_cmd = self.prev_cmd;
-        Memory {
-            held: HeldSample::Absent,
-            prev_cmd,
-        }
+        Memory { held: None, ..self }
     }
 
     #[tactic(auto, unfolding(crate::specs::Memory::after_tracking))]
@@ -78,8 +46,15 @@ impl Memory {
         ensures { result ≡ after_tracking next cmd }
     {
         Memory {
-            held: HeldSample::Held(next),
-            prev_cmd: PrevCommand::Was(cmd),
+            held: Some(next),
+            prev_cmd: Some(cmd),
         }
+    }
+
+    // The held sample, or the fresh one where there is none.
+    pub fn held_or(self, fresh: Sample) -> Sample
+        ensures { result ≡ held_or self.held fresh }
+    {
+        self.held.unwrap_or(fresh)
     }
 }

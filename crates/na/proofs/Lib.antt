@@ -1,2 +1,3 @@
--- Laws of the definitions. Assumes nothing.
+-- Laws of the definitions, and what arrays made element by element are. Assumes nothing.
 pub mod Laws
+pub mod Arrays

@@ -1,5 +1,5 @@
 -- Sums, differences, multiples and dot products of vectors, every step rounded to binary32. Assumes nothing.
-use Rattle.std.specs.Prelude.{List, [], ◌∷◌, Float}
+use Rattle.std.specs.Prelude.{ℕ, List, [], ◌∷◌, get_or, Float}
 use Rattle.std.specs.Float.{binary32}
 use Rattle.std.specs.Float.Ieee.{add, sub, mul, of_bits}
 use Rattle.na.specs.declared.Vector2f.{Vector2f}
@@ -37,13 +37,38 @@ difference_of u v = record { x = sub binary32 u.x v.x; y = sub binary32 u.y v.y;
 unfoldable pub scaled : Vector3f → Float → Vector3f
 scaled v k = record { x = mul binary32 v.x k; y = mul binary32 v.y k; z = mul binary32 v.z k }
 
--- ---- the dot product, at every width
+-- ---- vectors and lists of their entries
+
+abbrev pub entries2 : Vector2f → List Float
+entries2 v = v.x ∷ v.y ∷ []
 
 abbrev pub entries3 : Vector3f → List Float
 entries3 v = v.x ∷ v.y ∷ v.z ∷ []
 
 abbrev pub entries4 : Vector4f → List Float
 entries4 v = v.x ∷ v.y ∷ v.z ∷ v.w ∷ []
+
+abbrev pub entry : List Float → ℕ → Float
+entry l i = get_or l i zero_float
+
+-- the vector with these entries
+unfoldable pub vector2_of : List Float → Vector2f
+vector2_of l = record { x = entry l 0; y = entry l 1 }
+
+unfoldable pub vector3_of : List Float → Vector3f
+vector3_of l = record { x = entry l 0; y = entry l 1; z = entry l 2 }
+
+unfoldable pub vector4_of : List Float → Vector4f
+vector4_of l = record { x = entry l 0; y = entry l 1; z = entry l 2; w = entry l 3 }
+
+-- six of state: x, y, heading, their velocities
+unfoldable pub vector6_of : List Float → Vector6f
+vector6_of l = record {
+  pose = record { x = entry l 0; y = entry l 1; z = entry l 2 };
+  twist = record { x = entry l 3; y = entry l 4; z = entry l 5 };
+}
+
+-- ---- the dot product, at every width
 
 -- s, then the products of the entries added one by one, the leftmost first
 unfoldable pub add_products : Float → List Float → List Float → Float

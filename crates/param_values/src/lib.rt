@@ -1,5 +1,5 @@
 // Every constant of `params`, in that file's order. The contracts tie each to its bits in
-// the crate's specs/.
+// `params`' specs/.
 #![tactic(auto)]
 
 ghost use Rattle.std.specs.Prelude.{◌≡◌};

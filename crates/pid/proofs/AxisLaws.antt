@@ -6,9 +6,7 @@ use lib.Ieee.{Float, nan, binary32, mul, div, lt, le}
 use Rattle.float_bits.specs.Magnitude.{magnitude}
 use Rattle.float_clamp.proofs.Laws.{clamp_nan, clamp_between_lem}
 use Rattle.pid.specs.declared.PidController.{PidController}
-use Rattle.pid.specs.declared.AntiJitterThresh.TheVariants.{Below}
-use Rattle.pid.specs.declared.OutputLimits.{OutputLimits}
-use Rattle.pid.specs.declared.OutputLimits.TheVariants.{Absent, Between}
+use Rattle.std.specs.Prelude.{Option, None, Some}
 use Rattle.pid.specs.Axis.{zero, anti_jitter, limited, integrated, response, calculated, calculated_with_derivative, new_controller, reset_of}
 use Rattle.pid.specs.Axes.{Ask, answer, calculate, calculate_with_derivative, Call, ask, reset, after}
 
@@ -47,19 +45,19 @@ reset_new c = refl
 -- ---- the output
 
 -- the limits are in order, and an output is within them, where there are any
-abbrev pub Ordered : OutputLimits → Type 0
-Ordered Absent = Unit {0}
-Ordered (Between lo hi) = T (le lo hi)
+abbrev pub Ordered : Option (Float × Float) → Type 0
+Ordered None = Unit {0}
+Ordered (Some w) = T (le w.0 w.1)
 
-abbrev pub Inside : OutputLimits → Float → Type 0
-Inside Absent out = Unit {0}
-Inside (Between lo hi) out = T (le lo out) × T (le out hi)
+abbrev pub Inside : Option (Float × Float) → Float → Type 0
+Inside None out = Unit {0}
+Inside (Some w) out = T (le w.0 out) × T (le out w.1)
 
 -- with limits, every output is within them
-limited-inside : (l : OutputLimits) (out : Float) → Ordered l → Inside l (limited l out)
+limited-inside : (l : Option (Float × Float)) (out : Float) → Ordered l → Inside l (limited l out)
 unfolding limited
-limited-inside Absent out h = tt
-limited-inside (Between lo hi) out h = clamp_between_lem out lo hi h
+limited-inside None out h = tt
+limited-inside (Some w) out h = clamp_between_lem out w.0 w.1 h
 
 pub answer-inside : (a : Ask) (c : PidController) → Ordered c.output_limits → Inside (answer a c).controller.output_limits (answer a c).output
 unfolding calculated calculated_with_derivative response
@@ -67,17 +65,17 @@ answer-inside (calculate s v dt) c h = limited-inside c.output_limits _ h
 answer-inside (calculate_with_derivative s v d dt) c h = limited-inside c.output_limits _ h
 
 -- and NaN gives the lower one
-pub limited-nan : (lo hi : Float) → limited (Between lo hi) nan ≡ lo
+pub limited-nan : (lo hi : Float) → limited (Some (lo, hi)) nan ≡ lo
 unfolding limited
 limited-nan lo hi = clamp_nan lo hi
 
 -- below a threshold above zero the output is scaled by |error| / threshold
-pub anti_jitter_below : (t out err : Float) → lt zero t ≡ true → lt (magnitude err) t ≡ true → anti_jitter (Below t) out err ≡ div binary32 (mul binary32 out (magnitude err)) t
+pub anti_jitter_below : (t out err : Float) → lt zero t ≡ true → lt (magnitude err) t ≡ true → anti_jitter (Some t) out err ≡ div binary32 (mul binary32 out (magnitude err)) t
 unfolding anti_jitter
 anti_jitter_below t out err p q = rw (p, q)
 
 -- from the threshold on it stays
-pub anti_jitter_from : (t out err : Float) → lt (magnitude err) t ≡ false → anti_jitter (Below t) out err ≡ out
+pub anti_jitter_from : (t out err : Float) → lt (magnitude err) t ≡ false → anti_jitter (Some t) out err ≡ out
 unfolding anti_jitter
 anti_jitter_from t out err q = go (lt zero t)
   where

@@ -1,15 +1,11 @@
 -- pid.rs for one axis: the error's integral and derivative, the output with its anti-jitter and its limits, and what is remembered. Every step is rounded to binary32.
 -- Assumes nothing.
-use Rattle.std.specs.Prelude.{cond, ◌&&◌, Float}
+use Rattle.std.specs.Prelude.{cond, ◌&&◌, Float, Option, None, Some}
 use Rattle.std.specs.Float.{binary32}
 use Rattle.std.specs.Float.Ieee.{of_bits, add, sub, mul, div, lt}
 use Rattle.float_bits.specs.Magnitude.{magnitude}
 use Rattle.float_clamp.specs.Clamp.{clamp_between}
 use Rattle.params.specs.declared.PidGains.{PidGains}
-use Rattle.pid.specs.declared.AntiJitterThresh.{AntiJitterThresh}
-use Rattle.pid.specs.declared.AntiJitterThresh.TheVariants as Thresh
-use Rattle.pid.specs.declared.OutputLimits.{OutputLimits}
-use Rattle.pid.specs.declared.OutputLimits.TheVariants as Limits
 use Rattle.pid.specs.declared.PidController.{PidController}
 use Rattle.pid.specs.declared.PidAnswer.{PidAnswer}
 
@@ -18,14 +14,14 @@ abbrev pub zero : Float
 zero = of_bits binary32 0
 
 -- the output, scaled by |error| / threshold where |error| is below a threshold above zero
-unfoldable pub anti_jitter : AntiJitterThresh → Float → Float → Float
-anti_jitter Thresh.Absent out err = out
-anti_jitter (Thresh.Below t) out err = cond (lt zero t && lt (magnitude err) t) (div binary32 (mul binary32 out (magnitude err)) t) out
+unfoldable pub anti_jitter : Option Float → Float → Float → Float
+anti_jitter None out err = out
+anti_jitter (Some t) out err = cond (lt zero t && lt (magnitude err) t) (div binary32 (mul binary32 out (magnitude err)) t) out
 
--- the output within the limits, where there are any
-unfoldable pub limited : OutputLimits → Float → Float
-limited Limits.Absent out = out
-limited (Limits.Between lo hi) out = clamp_between out lo hi
+-- the output within the limits, the lower one first, where there are any
+unfoldable pub limited : Option (Float × Float) → Float → Float
+limited None out = out
+limited (Some w) out = clamp_between out w.0 w.1
 
 -- the integrated error after an error over dt, within its bounds
 unfoldable pub integrated : PidController → Float → Float → Float
@@ -59,7 +55,7 @@ calculated c setpoint process dt =
     response c e (div binary32 (sub binary32 e c.prev_error) dt) dt
 
 -- a controller that remembers nothing
-unfoldable pub new_controller : PidGains → AntiJitterThresh → OutputLimits → PidController
+unfoldable pub new_controller : PidGains → Option Float → Option (Float × Float) → PidController
 new_controller g t l = record { gain = g; anti_jitter_thresh = t; output_limits = l; prev_error = zero; integrated_error = zero }
 
 -- `reset`: only what is remembered changes

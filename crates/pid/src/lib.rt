@@ -8,25 +8,13 @@ use float_bits::abs;
 use float_clamp::clamp;
 use params::PidGains;
 
-// The error below which the output is scaled toward zero, if there is one.
-#[derive(Clone, Copy)]
-pub enum AntiJitterThresh {
-    Absent,
-    Below(f32),
-}
-
-// The bounds of the output, if there are any.
-#[derive(Clone, Copy)]
-pub enum OutputLimits {
-    Absent,
-    Between(f32, f32),
-}
-
 #[derive(Clone, Copy)]
 pub struct PidController {
     pub gain: PidGains,
-    pub anti_jitter_thresh: AntiJitterThresh,
-    pub output_limits: OutputLimits,
+    // The error below which the output is scaled toward zero, if there is one.
+    pub anti_jitter_thresh: Option<f32>,
+    // The bounds of the output, the lower one first, if there are any.
+    pub output_limits: Option<(f32, f32)>,
     pub prev_error: f32,
     pub integrated_error: f32,
 }
@@ -40,12 +28,12 @@ pub struct PidAnswer {
 
 // Below the threshold the output shrinks with the error.
 #[tactic(auto, unfolding(crate::specs::Axis::anti_jitter))]
-fn apply_anti_jitter(thresh: AntiJitterThresh, out: f32, err: f32) -> f32
+fn apply_anti_jitter(thresh: Option<f32>, out: f32, err: f32) -> f32
     ensures { result ≡ anti_jitter thresh out err }
 {
     match thresh {
-        AntiJitterThresh::Absent => out,
-        AntiJitterThresh::Below(t) => {
+        None => out,
+        Some(t) => {
             let size = abs(err);
             if (t > 0.0) & (size < t) {
                 out * size / t
@@ -57,19 +45,19 @@ fn apply_anti_jitter(thresh: AntiJitterThresh, out: f32, err: f32) -> f32
 }
 
 #[tactic(auto, unfolding(crate::specs::Axis::limited))]
-fn apply_output_limits(limits: OutputLimits, out: f32) -> f32
+fn apply_output_limits(limits: Option<(f32, f32)>, out: f32) -> f32
     ensures { result ≡ limited limits out }
 {
     match limits {
-        OutputLimits::Absent => out,
-        OutputLimits::Between(lo, hi) => clamp(out, lo, hi),
+        None => out,
+        Some((lo, hi)) => clamp(out, lo, hi),
     }
 }
 
 impl PidController {
     // A controller with nothing remembered.
     #[tactic(auto, unfolding(crate::specs::Axis::new_controller))]
-    pub fn new(gain: PidGains, thresh: AntiJitterThresh, limits: OutputLimits) -> PidController
+    pub fn new(gain: PidGains, thresh: Option<f32>, limits: Option<(f32, f32)>) -> PidController
         ensures { result ≡ new_controller gain thresh limits }
     {
         PidController {
@@ -100,14 +88,15 @@ impl PidController {
     ) -> PidAnswer
         ensures { result ≡ calculated_with_derivative self setpoint process_variable derivative dt_s }
     {
-        let thresh = self.anti_jitter_thresh;
-        let limits = self.output_limits;
         let gain = self.gain;
         let error = setpoint - process_variable;
         let sum = self.integrated_error + error * dt_s;
         let integrated = clamp(sum, gain.ki_err_min, gain.ki_err_max);
         let pid = gain.kp * error + gain.ki * integrated + gain.kd * derivative;
-        let output = apply_output_limits(limits, apply_anti_jitter(thresh, pid, error));
+        let output = apply_output_limits(
+            self.output_limits,
+            apply_anti_jitter(self.anti_jitter_thresh, pid, error),
+        );
         self.prev_error = error;
         self.integrated_error = integrated;
         PidAnswer {

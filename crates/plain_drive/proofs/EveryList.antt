@@ -10,7 +10,8 @@ use borrow.Author.Tests.{ltb-true, ltb-false, leb-true, lt-ltb, le-ltb, le-leb}
 use lib.Dec.{T, lit≤, leb, ltb}
 use lib.IntN.{pos}
 use lib.Ieee.{Float, binary32, le, of_int}
-use Rattle.tick_length.specs.declared.TickLengthAnswer.TheVariants as Length
+use Rattle.std.specs.Prelude.{Result, Ok, Err}
+use Rattle.tick_length.specs.declared.TickLength.{TickLength}
 use Rattle.tick_length.specs.TickLength.{is_tick_length, tick_length_of, seconds_of}
 use Rattle.gate.specs.declared.VisionGateState.{VisionGateState}
 use Rattle.gate.specs.declared.VisionGateState.TheVariants.{Seeding, Tracking}
@@ -22,17 +23,20 @@ use Rattle.vision.proofs.Outcomes.{Small}
 use Rattle.vision.proofs.Held.{Held, held_active, unheld_inactive, held_widens}
 use Rattle.body_controller.specs.declared.BodyController.{BodyController}
 use Rattle.body_controller.specs.declared.Choices.{Choices}
-use Rattle.body_controller.specs.declared.NewAnswer.TheVariants as New
 use Rattle.inputs.specs.declared.SightInput.{SightInput}
-use Rattle.body_controller.specs.declared.SightResult.{SightResult}
-use Rattle.tick.specs.declared.Refusal.TheVariants.{OutOfTurn, TickLimit}
+use Rattle.call_answers.specs.declared.Sighted.{Sighted}
+use Rattle.body_controller.specs.declared.Called.{Called}
+use Rattle.refusal.specs.declared.Refusal.{Refusal}
+use Rattle.refusal.specs.declared.Refusal.TheVariants as Why
+use Rattle.refusal.specs.Refusal.{number_of}
 use Rattle.body_controller.specs.Turn.{is_sight}
 use Rattle.tick.specs.Counts.{no_counts, count_list}
 use Rattle.context.specs.Context as Context
 use Rattle.context_sight.specs.Sight as ContextSight
-use Rattle.body_controller.specs.Controller.{started, made_from, new_of, new_number, reset_of}
+use Rattle.body_controller.specs.Controller.{started, made_from, new_of, reset_of}
+use Rattle.body_controller.specs.Controller as Controller
 use Rattle.call_answers.specs.Sight.{sight_answer}
-use Rattle.body_controller.specs.Sight.{tick_limit, seen_by, sighted, sight_refused, sight_of}
+use Rattle.body_controller.specs.Sight.{tick_limit, seen_by, sighted, sight_of}
 use Rattle.body_controller.specs.Plan.{plan_of}
 use Rattle.body_controller.specs.Steer.{steer_of}
 use Rattle.body_controller.specs.Finish.{finish_of}
@@ -59,7 +63,7 @@ pub record Followed (k : ℕ) (h : List Entry) (c : BodyController) : Type 0 whe
   pub state : drive_of c ≡ driven k (calls_of h)
   pub replies : replies_of h ≡ driven_replies k (calls_of h)
 
-begun : (k : ℕ) (c : BodyController) → new_of k ≡ New.Made c → Followed k [] c
+begun : (k : ℕ) (c : BodyController) → new_of k ≡ Ok c → Followed k [] c
 unfolding new_of tick_length_of
 begun k c e = go (is_tick_length k) refl e
   where
@@ -72,9 +76,9 @@ begun k c e = go (is_tick_length k) refl e
       replies = unfold replies_of driven_replies calls_of in refl;
     })
 
-    go : (b : Bool) → is_tick_length k ≡ b → made_from (cond b (Length.Made (record { k = k })) Length.Refused) ≡ New.Made c → Followed k [] c
+    go : (b : Bool) → is_tick_length k ≡ b → made_from (cond {A = Result TickLength Refusal} b (Ok (record { k = k })) (Err Why.TickLength)) ≡ Ok c → Followed k [] c
     go true f g = at_start (let same : started (record { tick = record { k = k } }) ≡ c = cc in same) f
-    go false f g = let clash : ◌≡◌ {A = ℕ} 1 0 = ap new_number g in absurd (omega (arith, clash))
+    go false f g = let clash : ◌≡◌ {A = ℕ} 1 0 = ap number_of g in absurd (omega (arith, clash))
 
 -- ---- a call
 
@@ -138,12 +142,12 @@ tracking-held k m false s t e v = absurd (rw e at v.1)
 
 -- a sight call that is accepted answers the gate's outcome
 accepted-outcome : (c : BodyController) (i : SightInput) → is_tick (sight_reply (sight_of c i).answer) ≡ true → took (sight_reply (sight_of c i).answer) ≡ takes (seen_by c i).action
-unfolding sight_of sighted sight_answer
+unfolding sight_of sighted sight_answer Controller.refused
 accepted-outcome c i = go (is_sight c.turn) (ltb c.ticks tick_limit)
   where
     go : (s t : Bool)
-        → is_tick (sight_reply (cond s (cond t (sighted c i) (sight_refused TickLimit c)) (sight_refused OutOfTurn c)).answer) ≡ true
-        → took (sight_reply (cond s (cond t (sighted c i) (sight_refused TickLimit c)) (sight_refused OutOfTurn c)).answer) ≡ takes (seen_by c i).action
+        → is_tick (sight_reply (cond s (cond t (sighted c i) (Controller.refused Why.TickLimit c)) (Controller.refused Why.OutOfTurn c)).answer) ≡ true
+        → took (sight_reply (cond s (cond t (sighted c i) (Controller.refused Why.TickLimit c)) (Controller.refused Why.OutOfTurn c)).answer) ≡ takes (seen_by c i).action
     go true true e = refl
     go true false e = absurd (true≢false (sym e))
     go false t e = absurd (true≢false (sym e))
@@ -176,7 +180,7 @@ demand3 k h c m =
       replies = f.replies;
       cameras = cameras k (since h) (holding k h) (drive_of c) f.most w.vision;
       widens = λ D t i reply d l g r e seen near x tick.
-          let same : reply ≡ sight_reply (sight_of c i).answer = x.2 ∙ ap (λ (y : SightResult). sight_reply y.answer) x.1 in
+          let same : reply ≡ sight_reply (sight_of c i).answer = x.2 ∙ ap (λ (y : Called Sighted). sight_reply y.answer) x.1 in
           ap took same ∙ accepted-outcome c i (ap is_tick (sym same) ∙ tick) ∙ widened k h c f D t i l g r e seen near;
     }
 

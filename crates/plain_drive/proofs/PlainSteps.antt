@@ -13,13 +13,12 @@ use Rattle.params.specs.Params.{vision_clock_start_s}
 use Rattle.gate.specs.declared.VisionGateState.TheVariants.{Seeding}
 use Rattle.seeding.specs.Seeding.{fresh_seeding}
 use Rattle.cmd.specs.declared.ManeuverCommand.{ManeuverCommand}
-use Rattle.cmd.specs.declared.CommandAnswer.{CommandAnswer}
-use Rattle.cmd.specs.declared.CommandAnswer.TheVariants as Command
+use Rattle.std.specs.Prelude.{Option, Result, Ok, Err}
+use Rattle.refusal.specs.declared.Refusal.{Refusal}
 use Rattle.plan_answer.specs.declared.PlanAnswer.{PlanAnswer}
 use Rattle.cmd.specs.Command.{command_from}
 use Rattle.divergence.specs.declared.TrackingDivergenceState.{TrackingDivergenceState}
 use Rattle.divergence.specs.declared.TrackingDivergenceState.TheVariants.{Normal, Recovering}
-use Rattle.recovery.specs.declared.HeldState.{HeldState}
 use Rattle.recovery.specs.declared.RecoveryAnswer.{RecoveryAnswer}
 use Rattle.divergence.specs.Divergence.{is_recovering}
 use Rattle.tracking_limits.specs.Limits.{at_rest}
@@ -66,7 +65,7 @@ abbrev ending : TrackingDivergenceState → RecoveryAnswer → Bool
 ending before r = is_recovering before && not (is_recovering r.state)
 
 -- recovery resets exactly where it ends
-recovery_ends : (before : TrackingDivergenceState) (held : HeldState) (estimate : Vector6f) (w : Vector4f)
+recovery_ends : (before : TrackingDivergenceState) (held : Option Vector6f) (estimate : Vector6f) (w : Vector4f)
     → ending before (recovery before held estimate w) ≡ (recovery before held estimate w).reset
 unfolding recovery
 recovery_ends Normal held estimate w = go (tracking_error_exceeded held estimate)
@@ -126,9 +125,9 @@ plan_stands s i to_plan = command (command_from i.mode i.words)
     given cmd true = still s (plan i) _ refl refl refl (refl, refl, refl, refl, refl)
     given cmd false = still s (plan i) _ refl refl refl (refl, refl, refl, refl, refl)
 
-    command : (a : CommandAnswer) → NoTick s (plan i) (on_command a s i)
-    command Command.Refused = away s (plan i) 4 refl
-    command (Command.Given cmd) = given cmd i.estimator_failed
+    command : (a : Result ManeuverCommand Refusal) → NoTick s (plan i) (on_command a s i)
+    command (Err r) = away s (plan i) 4 refl
+    command (Ok cmd) = given cmd i.estimator_failed
 plan_stands s i (to_steer a cmd) = away s (plan i) 2 refl
 plan_stands s i to_finish = away s (plan i) 2 refl
 

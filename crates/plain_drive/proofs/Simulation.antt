@@ -4,7 +4,7 @@ use Prim.Native.Nat.{ℕ, ◌+◌, ◌%◌, ◌^◌, ◌≤◌}
 use native.Mathlib.Nat.{mod-eq_of_lt}
 use native.Mathlib.Omega.{arith}
 use mathlib.Core.Bool.{Bool, true, false, cond}
-use borrow.Author.Tests.{eqb-true, eqb-false, le-ltb}
+use mathlib.Core.List.{List}
 use lib.Dec.{eqb, ltb}
 use lib.Ieee.{Float}
 use Rattle.na.specs.declared.Vector4f.{Vector4f}
@@ -12,15 +12,17 @@ use Rattle.tick_length.specs.TickLength.{seconds_of}
 use Rattle.gate_action.specs.declared.GateAction.{GateAction}
 use Rattle.gate_action.specs.declared.GateAction.TheVariants.{NoVision, Accumulate, SeedComplete, SeedReset, Accept, AcceptJump, FirstReject, Reject}
 use Rattle.gate_action.specs.Outcome.{overwrites, number_of}
+use Rattle.gate.specs.Gate.{sighting_of}
 use Rattle.vision.specs.Vision.{new_vision, vision_after}
-use Rattle.cmd.specs.declared.CommandAnswer.{CommandAnswer}
-use Rattle.cmd.specs.declared.CommandAnswer.TheVariants as Command
+use Rattle.std.specs.Prelude.{None, Result, Ok, Err}
+use Rattle.refusal.specs.declared.Refusal.{Refusal}
+use Rattle.refusal.specs.declared.Refusal.TheVariants as Why
+use Rattle.cmd.specs.declared.ManeuverCommand.{ManeuverCommand}
 use Rattle.memory.specs.declared.Memory.{Memory}
-use Rattle.memory.specs.declared.HeldSample.TheVariants as Samples
-use Rattle.memory.specs.declared.PrevCommand.TheVariants as Prev
 use Rattle.plan_answer.specs.declared.PlanAnswer.{PlanAnswer}
 use Rattle.plan_answer.specs.declared.PlanAnswer.TheVariants as Answers
-use Rattle.cmd.specs.Command.{command_from}
+use Rattle.cmd.specs.declared.ManeuverCommand.TheVariants as Cmd
+use Rattle.cmd.specs.Command.{position_from, line_from, command_from}
 use Rattle.memory.specs.Memory.{empty_memory, trajectory_dropped, after_tracking}
 use Rattle.recovery.specs.Recovery.{recovery}
 use Rattle.body_controller.specs.declared.BodyController.{BodyController}
@@ -30,6 +32,7 @@ use Rattle.inputs.specs.declared.PlanInput.{PlanInput}
 use Rattle.inputs.specs.declared.SteerInput.{SteerInput}
 use Rattle.inputs.specs.declared.FinishInput.{FinishInput}
 use Rattle.call_answers.specs.declared.Steered.{Steered}
+use Rattle.context.specs.declared.Planned.{Planned}
 use Rattle.tick.specs.Counts.{counted, count_list}
 use Rattle.context.specs.declared.ControlContext.{ControlContext}
 use Rattle.context_steer.specs.declared.Tracked.{Tracked}
@@ -37,16 +40,18 @@ use Rattle.context.specs.Context as Context
 use Rattle.context_sight.specs.Sight as ContextSight
 use Rattle.context_plan.specs.Plan as ContextPlan
 use Rattle.context_steer.specs.Steer as Tracking
-use Rattle.body_controller.specs.Turn.{is_sight, is_plan, is_steer, is_finish}
-use Rattle.body_controller.specs.Controller.{reset_of}
+use Rattle.body_controller.specs.declared.Turn.{Turn}
+use Rattle.body_controller.specs.declared.Turn.TheVariants as Turns
+use Rattle.body_controller.specs.Turn.{is_sight, is_plan}
+use Rattle.body_controller.specs.Controller.{reset_of, refused}
 use Rattle.call_answers.specs.Sight.{sight_answer}
 use Rattle.body_controller.specs.Sight.{tick_limit, sighted, sight_of}
-use Rattle.body_controller.specs.Plan.{planned, plan_refused, plan_with, plan_of}
+use Rattle.body_controller.specs.Plan.{planned, plan_with, plan_of}
 use Rattle.body_controller.specs.Steer as Steer
-use Rattle.body_controller.specs.Finish.{finished, finish_of}
+use Rattle.body_controller.specs.Finish.{finished, finish_at, finish_of}
 use Rattle.plain_drive.specs.Calls.{sight, plan, steer, finish, reset, Reply, accepted}
 use Rattle.plain_drive.specs.PlainDrive as Plain
-use Rattle.plain_drive.specs.EveryList.{sight_reply, plan_reply, steer_reply, finish_reply, drive_of, AllWithin}
+use Rattle.plain_drive.specs.EveryList.{sight_reply, plan_reply, steer_reply, finish_reply, drive_turn, drive_of, AllWithin}
 
 -- the reply r and the controller d are what the plain drive makes of c's state, and the choices stay
 pub record Follows (c : BodyController) (to : Plain.Step) (r : Reply) (d : BodyController) : Type 0 where
@@ -73,34 +78,10 @@ counted_grown n Reject h = rw (grows n.refused h.1.1.1.1.1.1.1.0)
 
 -- ---- whose turn it is
 
--- a controller's turn in the plain drive's terms, and what each call's test of it gives
-pub record Tests (c : BodyController) (turn : Plain.DriveTurn) (first second third last : Bool) : Type 0 where
-  pub drive : (drive_of c).turn ≡ turn
-  pub sight : is_sight c.turn ≡ first
-  pub plan : is_plan c.turn ≡ second
-  pub steer : is_steer c.turn ≡ third
-  pub finish : is_finish c.turn ≡ last
-
-data Next (c : BodyController) : Type 0 where
-  sight_turn : Tests c Plain.to_sight true false false false → Next c
-  plan_turn : Tests c Plain.to_plan false true false false → Next c
-  steer_turn : Tests c (Plain.to_steer c.planned.answer c.planned.cmd) false false true false → Next c
-  finish_turn : Tests c Plain.to_finish false false false true → Next c
-
-next : (c : BodyController) → Next c
+-- a controller's turn in the plain drive's terms
+drive_at : (c : BodyController) (turn : Turn) → c.turn ≡ turn → (drive_of c).turn ≡ drive_turn turn
 unfolding drive_of
-next c = go (is_sight c.turn) (is_plan c.turn) (is_steer c.turn) refl refl refl
-  where
-    is : (n : ℕ) → eqb c.turn n ≡ true → c.turn ≡ n
-    is n e = eqb-true c.turn n e
-
-    go : (x y z : Bool) → is_sight c.turn ≡ x → is_plan c.turn ≡ y → is_steer c.turn ≡ z → Next c
-    go true y z e f g = sight_turn (record { drive = rw e; sight = e; plan = rw (is 0 e); steer = rw (is 0 e); finish = rw (is 0 e) })
-    go false true z e f g = plan_turn (record { drive = rw (e, f); sight = e; plan = f; steer = rw (is 1 f); finish = rw (is 1 f) })
-    go false false true e f g = steer_turn (record { drive = rw (e, f, g); sight = e; plan = f; steer = g; finish = rw (is 2 g) })
-    go false false false e f g =
-        finish_turn
-        (record { drive = rw (e, f, g); sight = e; plan = f; steer = g; finish = rw (le-ltb c.turn 3 (omega (arith, eqb-false c.turn 0 e, eqb-false c.turn 1 f, eqb-false c.turn 2 g))) })
+drive_at c turn e = ap drive_turn e
 
 -- the tick limit is tried on the same number
 within : (c : BodyController) (b : Bool) → ltb c.ticks tick_limit ≡ b → ltb (drive_of c).ticks 16777216 ≡ b
@@ -110,7 +91,7 @@ within c b e = e
 -- ---- sight
 
 -- both memories are dropped together
-dropped : (b : Bool) (m : Memory) → ((cond b empty_memory m).held ≡ cond b Samples.Absent m.held) × ((cond b empty_memory m).prev_cmd ≡ cond b Prev.Absent m.prev_cmd)
+dropped : (b : Bool) (m : Memory) → ((cond b empty_memory m).held ≡ cond b None m.held) × ((cond b empty_memory m).prev_cmd ≡ cond b None m.prev_cmd)
 unfolding empty_memory
 dropped true m = (refl, refl)
 dropped false m = (refl, refl)
@@ -120,7 +101,7 @@ module _ (c : BodyController) (i : SightInput) (ticks : c.ticks ≤ 16777216) (c
   dt = seconds_of c.choices.tick.k
 
   abbrev action : GateAction
-  action = (vision_after c.context.vision i.vision_update i.vision_pose_meas i.predicted_state dt).action
+  action = (vision_after c.context.vision (sighting_of i.vision_update i.vision_pose_meas) i.predicted_state dt).action
 
   sighted_follows : Follows c (Plain.seen dt (drive_of c) i) (sight_reply (sighted c i).answer) (sighted c i).controller
   unfolding sighted sight_answer ContextSight.seen vision_after drive_of Plain.seen
@@ -134,26 +115,42 @@ module _ (c : BodyController) (i : SightInput) (ticks : c.ticks ≤ 16777216) (c
   OnSight turn = Follows c (Plain.on_sight turn dt (drive_of c) i) (sight_reply (sight_of c i).answer) (sight_of c i).controller
 
   pub sight_follows : Follows c (Plain.step dt (drive_of c) (sight i)) (sight_reply (sight_of c i).answer) (sight_of c i).controller
-  unfolding sight_of Plain.step
-  sight_follows = go (next c) (ltb c.ticks tick_limit) refl
+  unfolding sight_of refused Plain.step
+  sight_follows = go c.turn refl (ltb c.ticks tick_limit) refl
     where
-      go : Next c → (b : Bool) → ltb c.ticks tick_limit ≡ b → OnSight (drive_of c).turn
-      go (sight_turn t) true l = subst OnSight (sym t.drive) (rw (t.sight, l, within c true l) sighted_follows)
-      go (sight_turn t) false l = subst OnSight (sym t.drive) (rw (t.sight, l, within c false l) (record { reply = refl; state = refl; choices = refl }))
-      go (plan_turn t) b l = subst OnSight (sym t.drive) (rw t.sight (record { reply = refl; state = refl; choices = refl }))
-      go (steer_turn t) b l = subst OnSight (sym t.drive) (rw t.sight (record { reply = refl; state = refl; choices = refl }))
-      go (finish_turn t) b l = subst OnSight (sym t.drive) (rw t.sight (record { reply = refl; state = refl; choices = refl }))
+      go : (turn : Turn) → c.turn ≡ turn → (b : Bool) → ltb c.ticks tick_limit ≡ b → OnSight (drive_of c).turn
+      go Turns.Sight e true l = subst OnSight (sym (drive_at c _ e)) (rw (ap is_sight e, l, within c true l) sighted_follows)
+      go Turns.Sight e false l = subst OnSight (sym (drive_at c _ e)) (rw (ap is_sight e, l, within c false l) (record { reply = refl; state = refl; choices = refl }))
+      go Turns.Plan e b l = subst OnSight (sym (drive_at c _ e)) (rw (ap is_sight e) (record { reply = refl; state = refl; choices = refl }))
+      go (Turns.Steer p) e b l = subst OnSight (sym (drive_at c _ e)) (rw (ap is_sight e) (record { reply = refl; state = refl; choices = refl }))
+      go (Turns.Finish s) e b l = subst OnSight (sym (drive_at c _ e)) (rw (ap is_sight e) (record { reply = refl; state = refl; choices = refl }))
 
 -- ---- plan
 
+-- a command's words are refused with 4 alone
+only_mode : (mode : ℕ) (w : List Float) (r : Refusal) → command_from mode w ≡ Err r → r ≡ Why.Mode
+unfolding command_from
+only_mode mode w r h = go (eqb mode 0) (eqb mode 1) (eqb mode 2) (eqb mode 3) h
+  where
+    go : (a b c d : Bool)
+        → cond a (Ok Cmd.Off) (cond b (Ok Cmd.Brake) (cond c (Ok (Cmd.GlobalPosition (position_from w))) (cond d (Ok (Cmd.HeadingLine (line_from w))) (Err Why.Mode)))) ≡ Err r
+        → r ≡ Why.Mode
+    go true b c d e = cc
+    go false true c d e = cc
+    go false false true d e = cc
+    go false false false true e = cc
+    go false false false false e = cc
+
 module _ (c : BodyController) (i : PlanInput) where
-  -- at plan's turn, by what the command's words gave
-  command_follows : (a : CommandAnswer) → Follows c (Plain.on_command a (drive_of c) i) (plan_reply (plan_with a c i).answer) (plan_with a c i).controller
-  unfolding drive_of planned plan_refused ContextPlan.decided_on Plain.decided_on
-  command_follows Command.Refused = record { reply = refl; state = refl; choices = refl }
-  command_follows (Command.Given cmd) = go i.estimator_failed refl
+  -- at plan's turn, by what the command's words gave, which is refused with 4 alone
+  command_follows : (a : Result ManeuverCommand Refusal)
+      → ((r : Refusal) → a ≡ Err r → r ≡ Why.Mode)
+      → Follows c (Plain.on_command a (drive_of c) i) (plan_reply (plan_with a c i).answer) (plan_with a c i).controller
+  unfolding drive_of planned refused ContextPlan.decided_on Plain.decided_on
+  command_follows (Err r) only = rw (only r refl) (record { reply = refl; state = refl; choices = refl })
+  command_follows (Ok cmd) only = go i.estimator_failed refl
     where
-      go : (b : Bool) → i.estimator_failed ≡ b → Follows c (Plain.on_command (Command.Given cmd) (drive_of c) i) (plan_reply (plan_with (Command.Given cmd) c i).answer) (plan_with (Command.Given cmd) c i).controller
+      go : (b : Bool) → i.estimator_failed ≡ b → Follows c (Plain.on_command (Ok cmd) (drive_of c) i) (plan_reply (plan_with (Ok cmd) c i).answer) (plan_with (Ok cmd) c i).controller
       go true e = rw e (record { reply = refl; state = refl; choices = refl })
       go false e = rw e (record { reply = refl; state = refl; choices = refl })
 
@@ -161,14 +158,14 @@ module _ (c : BodyController) (i : PlanInput) where
   OnPlan turn = Follows c (Plain.on_plan turn (drive_of c) i) (plan_reply (plan_of c i).answer) (plan_of c i).controller
 
   pub plan_follows : (dt : Float) → Follows c (Plain.step dt (drive_of c) (plan i)) (plan_reply (plan_of c i).answer) (plan_of c i).controller
-  unfolding plan_of plan_refused Plain.step
-  plan_follows dt = go (next c)
+  unfolding plan_of refused Plain.step
+  plan_follows dt = go c.turn refl
     where
-      go : Next c → OnPlan (drive_of c).turn
-      go (sight_turn t) = subst OnPlan (sym t.drive) (rw t.plan (record { reply = refl; state = refl; choices = refl }))
-      go (plan_turn t) = subst OnPlan (sym t.drive) (rw t.plan (command_follows (command_from i.mode i.words)))
-      go (steer_turn t) = subst OnPlan (sym t.drive) (rw t.plan (record { reply = refl; state = refl; choices = refl }))
-      go (finish_turn t) = subst OnPlan (sym t.drive) (rw t.plan (record { reply = refl; state = refl; choices = refl }))
+      go : (turn : Turn) → c.turn ≡ turn → OnPlan (drive_of c).turn
+      go Turns.Sight e = subst OnPlan (sym (drive_at c _ e)) (rw (ap is_plan e) (record { reply = refl; state = refl; choices = refl }))
+      go Turns.Plan e = subst OnPlan (sym (drive_at c _ e)) (rw (ap is_plan e) (command_follows (command_from i.mode i.words) (only_mode i.mode i.words)))
+      go (Turns.Steer p) e = subst OnPlan (sym (drive_at c _ e)) (rw (ap is_plan e) (record { reply = refl; state = refl; choices = refl }))
+      go (Turns.Finish s) e = subst OnPlan (sym (drive_at c _ e)) (rw (ap is_plan e) (record { reply = refl; state = refl; choices = refl }))
 
 -- ---- reset
 
@@ -183,9 +180,7 @@ abbrev at_finish : BodyController → ControlContext → Steered → BodyControl
 at_finish c context s = record {
   choices = c.choices;
   context = context;
-  turn = 3;
-  planned = c.planned;
-  steered = s;
+  turn = Turns.Finish s;
   outputs = c.outputs;
   ticks = c.ticks;
   counts = c.counts;
@@ -201,12 +196,12 @@ recovered_follows c d w s = go (Tracking.recovery_of d w).reset refl
     go true e = rw e
     go false e = rw e
 
-module _ (c : BodyController) (i : SteerInput) where
+module _ (c : BodyController) (p : Planned) (i : SteerInput) where
   abbrev tracked : PlanAnswer → Tracked
-  tracked a = Tracking.followed_by a c.context c.planned.cmd i.fresh i.next (seconds_of c.choices.tick.k)
+  tracked a = Tracking.followed_by a c.context p.cmd i.fresh i.next (seconds_of c.choices.tick.k)
 
   -- tracking, with finish next
-  tracked_follows : (a : PlanAnswer) (s : Steered) → drive_of (at_finish c (tracked a).context s) ≡ Plain.followed (drive_of c) a c.planned.cmd i
+  tracked_follows : (a : PlanAnswer) (s : Steered) → drive_of (at_finish c (tracked a).context s) ≡ Plain.followed (drive_of c) a p.cmd i
   unfolding drive_of after_tracking Tracking.tracked
   tracked_follows Answers.Hold s = refl
   tracked_follows Answers.NoVision s = refl
@@ -218,51 +213,52 @@ module _ (c : BodyController) (i : SteerInput) where
   recovered_in s = Plain.recovered (recovery s.recovering (Plain.judged_state s.held) s.estimate i.wheel_vel_meas) s
 
   both_follow : (s : Steered)
-      → drive_of (at_finish c (Tracking.recovered (tracked c.planned.answer).context i.wheel_vel_meas) s) ≡ recovered_in (Plain.followed (drive_of c) c.planned.answer c.planned.cmd i)
+      → drive_of (at_finish c (Tracking.recovered (tracked p.answer).context i.wheel_vel_meas) s) ≡ recovered_in (Plain.followed (drive_of c) p.answer p.cmd i)
   unfolding drive_of
-  both_follow s = recovered_follows c (tracked c.planned.answer).context i.wheel_vel_meas s ∙ ap recovered_in (tracked_follows c.planned.answer s)
+  both_follow s = recovered_follows c (tracked p.answer).context i.wheel_vel_meas s ∙ ap recovered_in (tracked_follows p.answer s)
 
-  steered_follows : Follows c (Plain.steered_by (drive_of c) c.planned.answer c.planned.cmd i) (steer_reply (Steer.steered c i).answer) (Steer.steered c i).controller
+  steered_follows : Follows c (Plain.steered_by (drive_of c) p.answer p.cmd i) (steer_reply (Steer.steered c p i).answer) (Steer.steered c p i).controller
   unfolding Steer.steered Tracking.steered Tracking.followed Plain.steered_by
   steered_follows = record { reply = refl; state = both_follow _; choices = refl }
 
   -- at steer's turn
-  planned_follows : (b : Bool) → Steer.fails_at c i ≡ b
-      → Follows c (Plain.on_steer (Plain.to_steer c.planned.answer c.planned.cmd) (drive_of c) i) (steer_reply (cond (Steer.fails_at c i) (Steer.planner_failed c) (Steer.steered c i)).answer) (cond (Steer.fails_at c i) (Steer.planner_failed c) (Steer.steered c i)).controller
-  unfolding drive_of trajectory_dropped Context.planner_failed Steer.planner_failed Plain.unplanned
+  planned_follows : (b : Bool) → Steer.fails_at p i ≡ b
+      → Follows c (Plain.on_steer (Plain.to_steer p.answer p.cmd) (drive_of c) i) (steer_reply (cond (Steer.fails_at p i) (Steer.planner_failed c) (Steer.steered c p i)).answer) (cond (Steer.fails_at p i) (Steer.planner_failed c) (Steer.steered c p i)).controller
+  unfolding drive_of trajectory_dropped Context.planner_failed Steer.planner_failed refused Plain.unplanned
   planned_follows true e = rw e (record { reply = refl; state = refl; choices = refl })
   planned_follows false e = rw e steered_follows
 
+module _ (c : BodyController) (i : SteerInput) where
   abbrev OnSteer : Plain.DriveTurn → Type 0
   OnSteer turn = Follows c (Plain.on_steer turn (drive_of c) i) (steer_reply (Steer.steer_of c i).answer) (Steer.steer_of c i).controller
 
   pub steer_follows : (dt : Float) → Follows c (Plain.step dt (drive_of c) (steer i)) (steer_reply (Steer.steer_of c i).answer) (Steer.steer_of c i).controller
-  unfolding Steer.steer_of Plain.step
-  steer_follows dt = go (next c)
+  unfolding Steer.steer_of refused Plain.step
+  steer_follows dt = go c.turn refl
     where
-      go : Next c → OnSteer (drive_of c).turn
-      go (sight_turn t) = subst OnSteer (sym t.drive) (rw t.steer (record { reply = refl; state = refl; choices = refl }))
-      go (plan_turn t) = subst OnSteer (sym t.drive) (rw t.steer (record { reply = refl; state = refl; choices = refl }))
-      go (steer_turn t) = subst OnSteer (sym t.drive) (rw t.steer (planned_follows (Steer.fails_at c i) refl))
-      go (finish_turn t) = subst OnSteer (sym t.drive) (rw t.steer (record { reply = refl; state = refl; choices = refl }))
+      go : (turn : Turn) → c.turn ≡ turn → OnSteer (drive_of c).turn
+      go Turns.Sight e = subst OnSteer (sym (drive_at c _ e)) (rw (ap (λ (t : Turn). Steer.steer_at t c i) e) (record { reply = refl; state = refl; choices = refl }))
+      go Turns.Plan e = subst OnSteer (sym (drive_at c _ e)) (rw (ap (λ (t : Turn). Steer.steer_at t c i) e) (record { reply = refl; state = refl; choices = refl }))
+      go (Turns.Steer p) e = subst OnSteer (sym (drive_at c _ e)) (rw (ap (λ (t : Turn). Steer.steer_at t c i) e) (planned_follows c p i (Steer.fails_at p i) refl))
+      go (Turns.Finish s) e = subst OnSteer (sym (drive_at c _ e)) (rw (ap (λ (t : Turn). Steer.steer_at t c i) e) (record { reply = refl; state = refl; choices = refl }))
 
 -- ---- finish
 
 module _ (c : BodyController) (i : FinishInput) where
   -- at finish's turn
-  finished_follows : Follows c (Plain.on_finish Plain.to_finish (drive_of c)) (finish_reply (finished c i).answer) (finished c i).controller
+  finished_follows : (s : Steered) → Follows c (Plain.on_finish Plain.to_finish (drive_of c)) (finish_reply (finished c s i).answer) (finished c s i).controller
   unfolding drive_of
-  finished_follows = record { reply = refl; state = refl; choices = refl }
+  finished_follows s = record { reply = refl; state = refl; choices = refl }
 
   abbrev OnFinish : Plain.DriveTurn → Type 0
   OnFinish turn = Follows c (Plain.on_finish turn (drive_of c)) (finish_reply (finish_of c i).answer) (finish_of c i).controller
 
   pub finish_follows : (dt : Float) → Follows c (Plain.step dt (drive_of c) (finish i)) (finish_reply (finish_of c i).answer) (finish_of c i).controller
-  unfolding finish_of Plain.step
-  finish_follows dt = go (next c)
+  unfolding finish_of refused Plain.step
+  finish_follows dt = go c.turn refl
     where
-      go : Next c → OnFinish (drive_of c).turn
-      go (sight_turn t) = subst OnFinish (sym t.drive) (rw t.finish (record { reply = refl; state = refl; choices = refl }))
-      go (plan_turn t) = subst OnFinish (sym t.drive) (rw t.finish (record { reply = refl; state = refl; choices = refl }))
-      go (steer_turn t) = subst OnFinish (sym t.drive) (rw t.finish (record { reply = refl; state = refl; choices = refl }))
-      go (finish_turn t) = subst OnFinish (sym t.drive) (rw t.finish finished_follows)
+      go : (turn : Turn) → c.turn ≡ turn → OnFinish (drive_of c).turn
+      go Turns.Sight e = subst OnFinish (sym (drive_at c _ e)) (rw (ap (λ (t : Turn). finish_at t c i) e) (record { reply = refl; state = refl; choices = refl }))
+      go Turns.Plan e = subst OnFinish (sym (drive_at c _ e)) (rw (ap (λ (t : Turn). finish_at t c i) e) (record { reply = refl; state = refl; choices = refl }))
+      go (Turns.Steer p) e = subst OnFinish (sym (drive_at c _ e)) (rw (ap (λ (t : Turn). finish_at t c i) e) (record { reply = refl; state = refl; choices = refl }))
+      go (Turns.Finish s) e = subst OnFinish (sym (drive_at c _ e)) (rw (ap (λ (t : Turn). finish_at t c i) e) (finished_follows s))

@@ -14,7 +14,7 @@ use Rattle.gate_action.specs.declared.GateAction.{GateAction}
 use Rattle.gate_action.specs.declared.GateAction.TheVariants.{NoVision, Accumulate, SeedComplete, SeedReset, Accept, AcceptJump, FirstReject, Reject}
 use Rattle.vision.specs.declared.Vision.{Vision}
 use Rattle.gate_action.specs.Outcome.{takes, number_of}
-use Rattle.gate.specs.Gate.{judged}
+use Rattle.gate.specs.Gate.{sighting_of, judged}
 use Rattle.vision.specs.Vision.{vision_after}
 use Rattle.vision.proofs.Outcomes.{Small, fresh_small, stays_small, Seeds, refused_seeds}
 use Rattle.vision.proofs.Held.{Held, Unheld, taken_held, held_waits, unheld_waits}
@@ -71,19 +71,19 @@ pub record Watched (k n m : ℕ) (holds : Bool) (s : DriveState) : Type 0 where
 
 module _ (k n m : ℕ) (holds : Bool) (s : DriveState) (w : Watched k n m holds s) (i : SightInput) where
   abbrev action : GateAction
-  action = (judged s.gate i.vision_update i.vision_pose_meas i.predicted_state (seconds_of k)).action
+  action = (judged s.gate (sighting_of i.vision_update i.vision_pose_meas) i.predicted_state (seconds_of k)).action
 
   abbrev after : DriveState
   after = (seen (seconds_of k) s i).state
 
   waits : (held : Bool) → Seen k held m (vision_of s) → takes action ≡ false → Seen k held (m + 1) (vision_of after)
   unfolding seen vision_after
-  waits true v e = rw add-one (held_waits (vision_of s) i.vision_update i.vision_pose_meas i.predicted_state k m v e)
-  waits false v e = (unheld_waits (vision_of s) i.vision_update i.vision_pose_meas i.predicted_state k v.0 e, refused_seeds s.gate i.vision_update i.vision_pose_meas i.predicted_state (seconds_of k) v.1 e)
+  waits true v e = rw add-one (held_waits (vision_of s) (sighting_of i.vision_update i.vision_pose_meas) i.predicted_state k m v e)
+  waits false v e = (unheld_waits (vision_of s) (sighting_of i.vision_update i.vision_pose_meas) i.predicted_state k v.0 e, refused_seeds s.gate (sighting_of i.vision_update i.vision_pose_meas) i.predicted_state (seconds_of k) v.1 e)
 
   tick_vision : (b : Bool) → takes action ≡ b → Seen k (b || holds) (cond b 0 (m + 1)) (vision_of after)
   unfolding seen vision_after
-  tick_vision true e = taken_held (vision_of s) i.vision_update i.vision_pose_meas i.predicted_state k e
+  tick_vision true e = taken_held (vision_of s) (sighting_of i.vision_update i.vision_pose_meas) i.predicted_state k e
   tick_vision false e = waits holds w.vision e
 
   tick_watched : s.ticks < 16777216 → Watched k (n + 1) (cond (takes action) 0 (m + 1)) (takes action || holds) after
@@ -93,7 +93,7 @@ module _ (k n m : ℕ) (holds : Bool) (s : DriveState) (w : Watched k n m holds 
     sum = ap (λ (x : ℕ). x + 1) w.sum ∙ sym (grown-total (number_of action) s.counts (rw w.eight (number_below action)));
     eight = grown-length (number_of action) s.counts ∙ w.eight;
     limit = omega arith;
-    small = stays_small s.gate i.vision_update i.vision_pose_meas i.predicted_state (seconds_of k) w.small;
+    small = stays_small s.gate (sighting_of i.vision_update i.vision_pose_meas) i.predicted_state (seconds_of k) w.small;
     vision = tick_vision (takes action) refl;
   }
 

@@ -1,31 +1,24 @@
 -- Demand 3: what holds after every list of the calls sight, plan, steer, finish and reset from a new controller, refused ones included. The
 -- numbers are read off the list and its answers. `proofs/EveryList.antt` proves it. Assumes nothing.
-use Rattle.std.specs.Prelude.{ℕ, ◌+◌, ◌-◌, ◌*◌, ◌/◌, ◌≤◌, ◌≡◌, Bool, true, false, cond, not, ◌&&◌, ◌||◌, List, [], ◌∷◌, T, leb, pos, Float}
+use Rattle.std.specs.Prelude.{ℕ, ◌+◌, ◌-◌, ◌*◌, ◌/◌, ◌≤◌, ◌≡◌, Bool, true, false, cond, not, ◌&&◌, ◌||◌, List, [], ◌∷◌, T, leb, pos, Float, Result, Ok, Err}
 use Rattle.std.specs.Float.{binary32}
 use Rattle.std.specs.Float.Ieee.{le, of_int}
 use Rattle.gate.specs.declared.VisionGateState.{VisionGateState}
 use Rattle.gate.specs.declared.VisionGateState.TheVariants.{Seeding, Tracking}
 use Rattle.gate.specs.Gate.{distance}
 use Rattle.vision.specs.Vision.{active}
+use Rattle.refusal.specs.declared.Refusal.{Refusal}
+use Rattle.refusal.specs.Refusal.{refusal_number}
+use Rattle.na.specs.declared.Vector3f.{Vector3f}
+use Rattle.plan_answer.specs.declared.PlanAnswer.{PlanAnswer}
+use Rattle.call_answers.specs.declared.Sighted.{Sighted}
+use Rattle.call_answers.specs.declared.Finished.{Finished}
 use Rattle.body_controller.specs.declared.BodyController.{BodyController}
-use Rattle.body_controller.specs.declared.NewAnswer.TheVariants as New
+use Rattle.body_controller.specs.declared.Called.{Called}
+use Rattle.body_controller.specs.declared.Turn.{Turn}
+use Rattle.body_controller.specs.declared.Turn.TheVariants as Turns
 use Rattle.inputs.specs.declared.SightInput.{SightInput}
-use Rattle.body_controller.specs.declared.SightAnswer.{SightAnswer}
-use Rattle.body_controller.specs.declared.SightAnswer.TheVariants as Sights
-use Rattle.body_controller.specs.declared.SightResult.{SightResult}
-use Rattle.body_controller.specs.declared.PlanCallAnswer.{PlanCallAnswer}
-use Rattle.body_controller.specs.declared.PlanCallAnswer.TheVariants as Plans
-use Rattle.body_controller.specs.declared.PlanResult.{PlanResult}
-use Rattle.body_controller.specs.declared.SteerAnswer.{SteerAnswer}
-use Rattle.body_controller.specs.declared.SteerAnswer.TheVariants as Steers
-use Rattle.body_controller.specs.declared.SteerResult.{SteerResult}
-use Rattle.body_controller.specs.declared.FinishAnswer.{FinishAnswer}
-use Rattle.body_controller.specs.declared.FinishAnswer.TheVariants as Finishes
-use Rattle.body_controller.specs.declared.FinishResult.{FinishResult}
-use Rattle.context.specs.declared.Planned.{Planned}
-use Rattle.tick.specs.Refusal.{refusal_number}
 use Rattle.tick.specs.Counts.{count_list}
-use Rattle.body_controller.specs.Turn.{is_sight, is_plan, is_steer}
 use Rattle.body_controller.specs.Controller.{new_of, reset_of}
 use Rattle.body_controller.specs.Sight.{sight_of}
 use Rattle.body_controller.specs.Plan.{plan_of}
@@ -36,29 +29,29 @@ use Rattle.plain_drive.specs.PlainDrive.{DriveTurn, to_sight, to_plan, to_steer,
 
 -- ---- a run of the controller
 
--- what is compared of an answer
-abbrev pub sight_reply : SightAnswer → Reply
-sight_reply (Sights.Accepted s) = outcome s.action
-sight_reply (Sights.Refused r) = refused (refusal_number r)
+-- what is compared of an answer: of an accepted call what the function says, of a refused one the number
+abbrev pub reply_by : {A : Type 0} → (A → Reply) → Result A Refusal → Reply
+reply_by f (Ok a) = f a
+reply_by f (Err r) = refused (refusal_number r)
 
-abbrev pub plan_reply : PlanCallAnswer → Reply
-plan_reply (Plans.Accepted a) = answer a
-plan_reply (Plans.Refused r) = refused (refusal_number r)
+abbrev pub sight_reply : Result Sighted Refusal → Reply
+sight_reply a = reply_by (λ (s : Sighted). outcome s.action) a
 
-abbrev pub steer_reply : SteerAnswer → Reply
-steer_reply (Steers.Accepted t) = accepted
-steer_reply (Steers.Refused r) = refused (refusal_number r)
+abbrev pub plan_reply : Result PlanAnswer Refusal → Reply
+plan_reply a = reply_by answer a
 
-abbrev pub finish_reply : FinishAnswer → Reply
-finish_reply (Finishes.Accepted f) = accepted
-finish_reply (Finishes.Refused r) = refused (refusal_number r)
+abbrev pub steer_reply : Result Vector3f Refusal → Reply
+steer_reply a = reply_by (λ (t : Vector3f). accepted) a
+
+abbrev pub finish_reply : Result Finished Refusal → Reply
+finish_reply a = reply_by (λ (f : Finished). accepted) a
 
 -- a call of c gave this reply and the controller d: some result that the call's contract allows has them
 abbrev pub Meets : BodyController → Call → Reply → BodyController → Type 0
-Meets c (sight i) reply d = (r : SightResult) × (r ≡ sight_of c i) × (reply ≡ sight_reply r.answer) × (d ≡ r.controller)
-Meets c (plan i) reply d = (r : PlanResult) × (r ≡ plan_of c i) × (reply ≡ plan_reply r.answer) × (d ≡ r.controller)
-Meets c (steer i) reply d = (r : SteerResult) × (r ≡ steer_of c i) × (reply ≡ steer_reply r.answer) × (d ≡ r.controller)
-Meets c (finish i) reply d = (r : FinishResult) × (r ≡ finish_of c i) × (reply ≡ finish_reply r.answer) × (d ≡ r.controller)
+Meets c (sight i) reply d = (r : Called Sighted) × (r ≡ sight_of c i) × (reply ≡ sight_reply r.answer) × (d ≡ r.controller)
+Meets c (plan i) reply d = (r : Called PlanAnswer) × (r ≡ plan_of c i) × (reply ≡ plan_reply r.answer) × (d ≡ r.controller)
+Meets c (steer i) reply d = (r : Called Vector3f) × (r ≡ steer_of c i) × (reply ≡ steer_reply r.answer) × (d ≡ r.controller)
+Meets c (finish i) reply d = (r : Called Finished) × (r ≡ finish_of c i) × (reply ≡ finish_reply r.answer) × (d ≡ r.controller)
 Meets c reset reply d = (r : BodyController) × (r ≡ reset_of c) × (reply ≡ accepted) × (d ≡ r)
 
 -- a call and its reply
@@ -68,7 +61,7 @@ pub record Entry : Type 0 where
 
 -- calls and their replies, the latest first, lead from a new controller of tick length k/4096 s to c
 unfoldable pub Made : ℕ → List Entry → BodyController → Type 0
-Made k [] c = new_of k ≡ New.Made c
+Made k [] c = new_of k ≡ Ok c
 Made k (e ∷ h) d = (c : BodyController) × Made k h c × Meets c e.call e.reply d
 
 unfoldable pub calls_of : List Entry → List Call
@@ -103,20 +96,23 @@ took_within n (e ∷ h) = cond (is_tick e.reply) (leb 1 n && (took e.reply || to
 
 -- ---- read off the controller
 
-abbrev pub drive_turn : ℕ → Planned → DriveTurn
-drive_turn turn p = cond (is_sight turn) to_sight (cond (is_plan turn) to_plan (cond (is_steer turn) (to_steer p.answer p.cmd) to_finish))
+abbrev pub drive_turn : Turn → DriveTurn
+drive_turn Turns.Sight = to_sight
+drive_turn Turns.Plan = to_plan
+drive_turn (Turns.Steer p) = to_steer p.answer p.cmd
+drive_turn (Turns.Finish s) = to_finish
 
 -- what the plain drive keeps too
 unfoldable pub drive_of : BodyController → DriveState
 drive_of c = record {
   gate = c.context.vision.gate;
   clock = c.context.vision.time_since_vision_update_s;
-  recovering = c.context.divergence.state;
+  recovering = c.context.divergence;
   held = c.context.memory.held;
   previous = c.context.memory.prev_cmd;
   mode = c.context.prev_mode;
   estimate = c.context.state_estimate;
-  turn = drive_turn c.turn c.planned;
+  turn = drive_turn c.turn;
   ticks = c.ticks;
   counts = count_list c.counts;
 }

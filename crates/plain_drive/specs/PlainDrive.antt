@@ -1,7 +1,7 @@
 -- The plain drive, a term of document 01: its section of that name, over its own state. 'It is fed the controller's k and the calls' inputs
 -- alone.' Of the rules it cites those that the section refers to, gate, clock, decision and recovery, and nothing of the controller.
 -- Assumes nothing.
-use Rattle.std.specs.Prelude.{ℕ, zero, suc, ◌+◌, Bool, true, false, cond, not, ◌&&◌, ◌||◌, List, [], ◌∷◌, ltb, Float}
+use Rattle.std.specs.Prelude.{ℕ, zero, suc, ◌+◌, Bool, true, false, cond, not, ◌&&◌, ◌||◌, List, [], ◌∷◌, ltb, Float, Option, None, Some, Result, Ok, Err}
 use Rattle.na.specs.declared.Vector6f.{Vector6f}
 use Rattle.na.specs.Vector.{zeros6}
 use Rattle.params.specs.Params.{vision_clock_start_s}
@@ -10,23 +10,17 @@ use Rattle.gate.specs.declared.VisionGateState.{VisionGateState}
 use Rattle.gate.specs.declared.VisionGateState.TheVariants.{Seeding}
 use Rattle.gate_action.specs.Outcome.{takes, overwrites, number_of}
 use Rattle.seeding.specs.Seeding.{fresh_seeding}
-use Rattle.gate.specs.Gate.{judged}
+use Rattle.gate.specs.Gate.{sighting_of, judged}
 use Rattle.vision.specs.Vision.{active, clock_after}
 use Rattle.cmd.specs.declared.ManeuverCommand.{ManeuverCommand}
-use Rattle.cmd.specs.declared.CommandAnswer.{CommandAnswer}
-use Rattle.cmd.specs.declared.CommandAnswer.TheVariants as Command
-use Rattle.memory.specs.declared.HeldSample.{HeldSample}
-use Rattle.memory.specs.declared.HeldSample.TheVariants as Samples
-use Rattle.memory.specs.declared.PrevCommand.{PrevCommand}
-use Rattle.memory.specs.declared.PrevCommand.TheVariants as Prev
+use Rattle.refusal.specs.declared.Refusal.{Refusal}
+use Rattle.memory.specs.declared.Sample.{Sample}
 use Rattle.plan_answer.specs.declared.PlanAnswer.{PlanAnswer}
 use Rattle.plan_answer.specs.declared.PlanAnswer.TheVariants.{Hold, NoVision, Keep, NewPlan}
 use Rattle.cmd.specs.Command.{command_from}
 use Rattle.maneuvers.specs.Plan.{decided}
 use Rattle.divergence.specs.declared.TrackingDivergenceState.{TrackingDivergenceState}
 use Rattle.divergence.specs.declared.TrackingDivergenceState.TheVariants.{Normal}
-use Rattle.recovery.specs.declared.HeldState.{HeldState}
-use Rattle.recovery.specs.declared.HeldState.TheVariants as States
 use Rattle.recovery.specs.declared.RecoveryAnswer.{RecoveryAnswer}
 use Rattle.divergence.specs.Divergence.{is_recovering}
 use Rattle.recovery.specs.Recovery.{recovery}
@@ -50,8 +44,8 @@ pub record DriveState : Type 0 where
   pub gate : VisionGateState
   pub clock : Float
   pub recovering : TrackingDivergenceState
-  pub held : HeldSample
-  pub previous : PrevCommand
+  pub held : Option Sample
+  pub previous : Option ManeuverCommand
   pub mode : ℕ
   pub estimate : Vector6f
   pub turn : DriveTurn
@@ -64,8 +58,8 @@ start = record {
   gate = Seeding fresh_seeding;
   clock = vision_clock_start_s;
   recovering = Normal;
-  held = Samples.Absent;
-  previous = Prev.Absent;
+  held = None;
+  previous = None;
   mode = 0;
   estimate = zeros6;
   turn = to_sight;
@@ -93,15 +87,15 @@ grown (suc place) (n ∷ ns) = n ∷ grown place ns
 -- 'the gate gives the outcome; ticks and its count grow by one, the clock moves. C and J drop held sample and previous command.'
 unfoldable pub seen : Float → DriveState → SightInput → Step
 seen dt s i =
-    let j = judged s.gate i.vision_update i.vision_pose_meas i.predicted_state dt in
+    let j = judged s.gate (sighting_of i.vision_update i.vision_pose_meas) i.predicted_state dt in
     record {
       reply = outcome j.action;
       state = record {
         gate = j.gate;
         clock = clock_after s.clock (takes j.action) dt;
         recovering = s.recovering;
-        held = cond (overwrites j.action) Samples.Absent s.held;
-        previous = cond (overwrites j.action) Prev.Absent s.previous;
+        held = cond (overwrites j.action) None s.held;
+        previous = cond (overwrites j.action) None s.previous;
         mode = s.mode;
         estimate = s.estimate;
         turn = to_plan;
@@ -155,9 +149,9 @@ closed s = record {
 }
 
 -- 4; then '11 only makes it sight's turn'
-abbrev pub on_command : CommandAnswer → DriveState → PlanInput → Step
-on_command Command.Refused s i = turned_away 4 s
-on_command (Command.Given cmd) s i = cond i.estimator_failed (record { reply = refused 11; state = closed s }) (decided_on s i cmd)
+abbrev pub on_command : Result ManeuverCommand Refusal → DriveState → PlanInput → Step
+on_command (Err r) s i = turned_away 4 s
+on_command (Ok cmd) s i = cond i.estimator_failed (record { reply = refused 11; state = closed s }) (decided_on s i cmd)
 
 abbrev pub on_plan : DriveTurn → DriveState → PlanInput → Step
 on_plan to_sight s i = turned_away 2 s
@@ -173,8 +167,8 @@ cleared s = record {
   gate = Seeding fresh_seeding;
   clock = vision_clock_start_s;
   recovering = Normal;
-  held = Samples.Absent;
-  previous = Prev.Absent;
+  held = None;
+  previous = None;
   mode = s.mode;
   estimate = s.estimate;
   turn = s.turn;
@@ -226,7 +220,7 @@ unplanned s = record {
     gate = s.gate;
     clock = s.clock;
     recovering = s.recovering;
-    held = Samples.Absent;
+    held = None;
     previous = s.previous;
     mode = s.mode;
     estimate = s.estimate;
@@ -242,8 +236,8 @@ followed s a cmd i = record {
   gate = s.gate;
   clock = s.clock;
   recovering = s.recovering;
-  held = cond (tracks a) (Samples.Held i.next) s.held;
-  previous = cond (tracks a) (Prev.Was cmd) s.previous;
+  held = cond (tracks a) (Some i.next) s.held;
+  previous = cond (tracks a) (Some cmd) s.previous;
   mode = s.mode;
   estimate = s.estimate;
   turn = to_finish;
@@ -252,9 +246,9 @@ followed s a cmd i = record {
 }
 
 -- what recovery judges: the state of the sample held by then, if one is
-abbrev pub judged_state : HeldSample → HeldState
-judged_state Samples.Absent = States.Absent
-judged_state (Samples.Held sample) = States.Held sample.state
+abbrev pub judged_state : Option Sample → Option Vector6f
+judged_state None = None
+judged_state (Some sample) = Some sample.state
 
 -- another recovery state
 abbrev pub turned_to : RecoveryAnswer → DriveState → DriveState

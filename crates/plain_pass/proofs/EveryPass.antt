@@ -5,20 +5,21 @@ use mathlib.Core.Bool.{Bool, true, false, cond}
 use mathlib.Core.List.{List, [], ◌∷◌, head-eq_of_cons-eq}
 use lib.Dec.{eqb}
 use Rattle.tick_length.specs.TickLength.{is_tick_length, tick_length_of}
+use Rattle.std.specs.Prelude.{Result, Ok, Err}
+use Rattle.refusal.specs.declared.Refusal.{Refusal}
+use Rattle.refusal.specs.declared.Refusal.TheVariants as Why
+use Rattle.refusal.specs.Refusal.{refusal_number}
+use Rattle.na.specs.declared.Vector3f.{Vector3f}
+use Rattle.plan_answer.specs.declared.PlanAnswer.{PlanAnswer}
+use Rattle.call_answers.specs.declared.Sighted.{Sighted}
+use Rattle.call_answers.specs.declared.Finished.{Finished}
 use Rattle.body_controller.specs.declared.BodyController.{BodyController}
+use Rattle.body_controller.specs.declared.Called.{Called}
 use Rattle.inputs.specs.declared.FinishInput.{FinishInput}
-use Rattle.body_controller.specs.declared.FinishAnswer.{FinishAnswer}
-use Rattle.body_controller.specs.declared.FinishAnswer.TheVariants as Finishes
 use Rattle.inputs.specs.declared.PlanInput.{PlanInput}
-use Rattle.body_controller.specs.declared.PlanCallAnswer.{PlanCallAnswer}
-use Rattle.body_controller.specs.declared.PlanCallAnswer.TheVariants as Plans
-use Rattle.body_controller.specs.declared.SightAnswer.{SightAnswer}
-use Rattle.body_controller.specs.declared.SightAnswer.TheVariants as Sights
 use Rattle.inputs.specs.declared.SteerInput.{SteerInput}
-use Rattle.body_controller.specs.declared.SteerAnswer.{SteerAnswer}
-use Rattle.body_controller.specs.declared.SteerAnswer.TheVariants as Steers
 use Rattle.tick.specs.Counts.{no_counts, count_list}
-use Rattle.body_controller.specs.Controller.{started, new_of}
+use Rattle.body_controller.specs.Controller.{started, new_of, refused}
 use Rattle.body_controller.specs.Sight.{sight_of}
 use Rattle.body_controller.specs.Plan.{plan_of}
 use Rattle.body_controller.specs.Steer.{steer_of}
@@ -27,20 +28,16 @@ use Rattle.plain_drive.specs.Calls.{Call, sight, plan, steer, finish, Reply}
 use Rattle.plain_drive.specs.PlainDrive as Plain
 use Rattle.plain_drive.specs.EveryList.{sight_reply, plan_reply, steer_reply, finish_reply, Meets, Entry, Made, calls_of, replies_of, drive_of}
 use Rattle.plain_drive.proofs.EveryList.{demand3}
-use Rattle.line_text.specs.declared.Ending.{Ending}
 use Rattle.line_text.specs.declared.Line.{Line}
-use Rattle.tick_block.specs.declared.BlockAnswer.{BlockAnswer}
-use Rattle.tick_block.specs.declared.BlockAnswer.TheVariants as Block
 use Rattle.tick_block.specs.declared.TickBlock.{TickBlock}
 use Rattle.tick_block.specs.Block as Blocks
 use Rattle.drive_pass.specs.declared.Driven.{Driven}
 use Rattle.drive_pass.specs.declared.Pass.{Pass}
 use Rattle.drive_pass.specs.declared.Pass.TheVariants.{Empty, Driving}
 use Rattle.drive_pass.specs.Pass.{next_number, counts_of, refused_by}
-use Rattle.tick_calls.specs.declared.Ticked.{Ticked}
 use Rattle.tick_calls.specs.Tick as Tick
-use Rattle.tick_calls.specs.Tick.{ended_by, ending_of, finished, steered_with, steered, planned_with, planned, ticked_with, ticked}
-use Rattle.drive_blocks.specs.Blocks.{carried, ticked_on, begun_with, begun, taken_with, taken, driven_with, driven}
+use Rattle.tick_calls.specs.Tick.{ended_by, ending_of, then, steered, planned, ticked_with, ticked}
+use Rattle.drive_blocks.specs.Blocks.{ticked_on, in_order, driver_of, driven_by, taken_with, taken, driven_with, driven}
 use Rattle.plain_pass.specs.PlainPass.{ending_number, mark_of, PlainPass, none, at, PlainDriven, reply_after, refusal_in, ended_at, at_finish, at_steer, at_plan, plain_tick, plain_ticks, plain_counts, refused_at, plain_take, plain_read, plain_pass, plain_marks, Passed, marks_of, StandsOn, EveryPass}
 
 -- a controller behind the calls of a pass
@@ -77,49 +74,48 @@ stands k calls c b = (demand3 k b.0 c b.2).state ∙ ap (λ (cs : List Call). Pl
 -- ---- the calls of a tick, the last first
 
 module _ (k number letter : ℕ) where
-  -- the line and the pass of a tick
-  abbrev shown : Ticked → Driven
-  shown t = carried t.line t.controller
+  -- the line and the pass of a tick that ended with this call
+  abbrev shown : Called Finished → Driven
+  shown q = let t = ended_by q number letter in record { line = t.line; pass = Driving t.controller }
 
-  ended_agrees : (calls : List Call) (c : BodyController) (ending : Ending) (n : ℕ) → Behind k calls c → ending_number ending ≡ n → Agrees (shown (ended_by c number letter ending)) (ended_at k calls number letter n)
-  unfolding ended_by carried drive_of
-  ended_agrees calls c ending n b e = record { mark = rw (e, ← stands k calls c b); pass = b }
+  ended_agrees : (calls : List Call) (q : Called Finished) (n : ℕ) → Behind k calls q.controller → ending_number (ending_of q.answer) ≡ n → Agrees (shown q) (ended_at k calls number letter n)
+  unfolding ended_by drive_of
+  ended_agrees calls q n b e = record { mark = rw (e, ← stands k calls q.controller b); pass = b }
 
-  finish_agrees : (calls : List Call) (c : BodyController) (f : FinishInput) → Behind k calls c → Agrees (shown (finished c number letter f)) (at_finish k calls number letter f)
-  unfolding finished
-  finish_agrees calls c f b = ended_agrees (finish f ∷ calls) (finish_of c f).controller _ _ (after k calls c b (finish f) _ _ meets) (ending (finish_of c f).answer ∙ ap refusal_in (replied k calls c b (finish f) _ _ meets))
+  finish_agrees : (calls : List Call) (c : BodyController) (f : FinishInput) → Behind k calls c → Agrees (shown (finish_of c f)) (at_finish k calls number letter f)
+  finish_agrees calls c f b = ended_agrees (finish f ∷ calls) (finish_of c f) _ (after k calls c b (finish f) _ _ meets) (ending (finish_of c f).answer ∙ ap refusal_in (replied k calls c b (finish f) _ _ meets))
     where
       meets : Meets c (finish f) (finish_reply (finish_of c f).answer) (finish_of c f).controller
       meets = (finish_of c f, refl, refl, refl)
 
-      ending : (a : FinishAnswer) → ending_number (ending_of a) ≡ refusal_in (finish_reply a)
-      ending (Finishes.Accepted x) = refl
-      ending (Finishes.Refused r) = refl
+      ending : (a : Result Finished Refusal) → ending_number (ending_of a) ≡ refusal_in (finish_reply a)
+      ending (Ok x) = refl
+      ending (Err r) = refl
 
-  steer_agrees : (calls : List Call) (c : BodyController) (s : SteerInput) (f : FinishInput) → Behind k calls c → Agrees (shown (steered c number letter s f)) (at_steer k calls number letter s f)
-  unfolding steered
+  steer_agrees : (calls : List Call) (c : BodyController) (s : SteerInput) (f : FinishInput) → Behind k calls c → Agrees (shown (steered c s f)) (at_steer k calls number letter s f)
+  unfolding steered refused
   steer_agrees calls c s f b = go (steer_of c s).answer refl
     where
       meets : Meets c (steer s) (steer_reply (steer_of c s).answer) (steer_of c s).controller
       meets = (steer_of c s, refl, refl, refl)
 
-      go : (a : SteerAnswer) → (steer_of c s).answer ≡ a → Agrees (shown (steered_with a (steer_of c s).controller number letter f)) (at_steer k calls number letter s f)
-      go (Steers.Accepted x) e = rw (sym (replied k calls c b (steer s) _ _ meets) ∙ ap steer_reply e) (finish_agrees (steer s ∷ calls) (steer_of c s).controller f (after k calls c b (steer s) _ _ meets))
-      go (Steers.Refused r) e = rw (sym (replied k calls c b (steer s) _ _ meets) ∙ ap steer_reply e) (ended_agrees (steer s ∷ calls) (steer_of c s).controller _ _ (after k calls c b (steer s) _ _ meets) refl)
+      go : (a : Result Vector3f Refusal) → (steer_of c s).answer ≡ a → Agrees (shown (then a (steer_of c s).controller (λ (d : BodyController). finish_of d f))) (at_steer k calls number letter s f)
+      go (Ok x) e = rw (sym (replied k calls c b (steer s) _ _ meets) ∙ ap steer_reply e) (finish_agrees (steer s ∷ calls) (steer_of c s).controller f (after k calls c b (steer s) _ _ meets))
+      go (Err r) e = rw (sym (replied k calls c b (steer s) _ _ meets) ∙ ap steer_reply e) (ended_agrees (steer s ∷ calls) (refused r (steer_of c s).controller) _ (after k calls c b (steer s) _ _ meets) refl)
 
-  plan_agrees : (calls : List Call) (c : BodyController) (p : PlanInput) (s : SteerInput) (f : FinishInput) → Behind k calls c → Agrees (shown (planned c number letter p s f)) (at_plan k calls number letter p s f)
-  unfolding planned
+  plan_agrees : (calls : List Call) (c : BodyController) (p : PlanInput) (s : SteerInput) (f : FinishInput) → Behind k calls c → Agrees (shown (planned c p s f)) (at_plan k calls number letter p s f)
+  unfolding planned refused
   plan_agrees calls c p s f b = go (plan_of c p).answer refl
     where
       meets : Meets c (plan p) (plan_reply (plan_of c p).answer) (plan_of c p).controller
       meets = (plan_of c p, refl, refl, refl)
 
-      go : (a : PlanCallAnswer) → (plan_of c p).answer ≡ a → Agrees (shown (planned_with a (plan_of c p).controller number letter s f)) (at_plan k calls number letter p s f)
-      go (Plans.Accepted x) e = rw (sym (replied k calls c b (plan p) _ _ meets) ∙ ap plan_reply e) (steer_agrees (plan p ∷ calls) (plan_of c p).controller s f (after k calls c b (plan p) _ _ meets))
-      go (Plans.Refused r) e = rw (sym (replied k calls c b (plan p) _ _ meets) ∙ ap plan_reply e) (ended_agrees (plan p ∷ calls) (plan_of c p).controller _ _ (after k calls c b (plan p) _ _ meets) refl)
+      go : (a : Result PlanAnswer Refusal) → (plan_of c p).answer ≡ a → Agrees (shown (then a (plan_of c p).controller (λ (d : BodyController). steered d s f))) (at_plan k calls number letter p s f)
+      go (Ok x) e = rw (sym (replied k calls c b (plan p) _ _ meets) ∙ ap plan_reply e) (steer_agrees (plan p ∷ calls) (plan_of c p).controller s f (after k calls c b (plan p) _ _ meets))
+      go (Err r) e = rw (sym (replied k calls c b (plan p) _ _ meets) ∙ ap plan_reply e) (ended_agrees (plan p ∷ calls) (refused r (plan_of c p).controller) _ (after k calls c b (plan p) _ _ meets) refl)
 
 tick_agrees : (k : ℕ) (calls : List Call) (c : BodyController) (b : TickBlock) → Behind k calls c → Agrees (ticked_on c b) (plain_tick k calls b)
-unfolding ticked_on ticked plain_tick Tick.refused_at carried
+unfolding ticked_on ticked plain_tick Tick.refused_at
 tick_agrees k calls c b m = go (sight_of c b.sight).answer refl
   where
     meets : Meets c (sight b.sight) (sight_reply (sight_of c b.sight).answer) (sight_of c b.sight).controller
@@ -128,11 +124,11 @@ tick_agrees k calls c b m = go (sight_of c b.sight).answer refl
     ticks : c.ticks ≡ (Plain.driven k calls).ticks
     ticks = unfold drive_of in ap (λ (s : Plain.DriveState). s.ticks) (stands k calls c m)
 
-    go : (a : SightAnswer) → (sight_of c b.sight).answer ≡ a → (let t = ticked_with a c (sight_of c b.sight).controller b.plan b.steer b.finish in Agrees (carried t.line t.controller) (plain_tick k calls b))
-    go (Sights.Accepted x) e =
+    go : (a : Result Sighted Refusal) → (sight_of c b.sight).answer ≡ a → (let t = ticked_with a c (sight_of c b.sight).controller b.plan b.steer b.finish in Agrees (record { line = t.line; pass = Driving t.controller }) (plain_tick k calls b))
+    go (Ok x) e =
         rw (sym (replied k calls c m (sight b.sight) _ _ meets) ∙ ap sight_reply e, ← ticks)
         (plan_agrees k _ _ (sight b.sight ∷ calls) (sight_of c b.sight).controller b.plan b.steer b.finish (after k calls c m (sight b.sight) _ _ meets))
-    go (Sights.Refused r) e = rw (sym (replied k calls c m (sight b.sight) _ _ meets) ∙ ap sight_reply e) (record { mark = rw ticks; pass = m })
+    go (Err r) e = rw (sym (replied k calls c m (sight b.sight) _ _ meets) ∙ ap sight_reply e) (record { mark = rw ticks; pass = m })
 
 -- ---- a block
 
@@ -155,36 +151,40 @@ refused_agrees : (n : ℕ) (p : Pass) (q : PlainPass) → Beside p q → Agrees 
 unfolding refused_by
 refused_agrees n p q m = record { mark = rw (ticks_beside p q m); pass = m }
 
+-- what a block that says b makes of a pass
+abbrev driven_on : Pass → TickBlock → Driven
+driven_on p b = driven_with (driven_by (driver_of p b) b) p
+
 -- the first block
-first_agrees : (b : TickBlock) → Agrees (taken Empty b) (plain_take none b)
-unfolding taken begun
+first_agrees : (b : TickBlock) → Agrees (driven_on Empty b) (plain_take none b)
+unfolding driver_of
 first_agrees b = go (eqb b.number 0)
   where
-    made : (m : Bool) → is_tick_length b.tick.k ≡ m → Agrees (begun_with (new_of b.tick.k) Empty b) (cond m (plain_tick b.tick.k [] b) (refused_at 1 none))
+    made : (m : Bool) → is_tick_length b.tick.k ≡ m → Agrees (driven_with (driven_by (new_of b.tick.k) b) Empty) (cond m (plain_tick b.tick.k [] b) (refused_at 1 none))
     made true e = unfold new_of tick_length_of in rw e (tick_agrees b.tick.k [] (started (record { tick = record { k = b.tick.k } })) b ([], unfold calls_of in refl, unfold Made new_of tick_length_of in rw e))
     made false e = unfold new_of tick_length_of in rw e (refused_agrees 1 Empty none tt)
 
-    go : (zero : Bool) → Agrees (taken_with (cond zero 0 10) Empty b) (cond zero (cond (is_tick_length b.tick.k) (plain_tick b.tick.k [] b) (refused_at 1 none)) (refused_at 10 none))
+    go : (zero : Bool) → Agrees (driven_with (driven_by (cond zero (new_of b.tick.k) (Err Why.Order)) b) Empty) (cond zero (cond (is_tick_length b.tick.k) (plain_tick b.tick.k [] b) (refused_at 1 none)) (refused_at 10 none))
     go true = made (is_tick_length b.tick.k) refl
     go false = refused_agrees 10 Empty none tt
 
 -- a later block
-later_agrees : (k : ℕ) (calls : List Call) (c : BodyController) (b : TickBlock) → Behind k calls c → Agrees (taken (Driving c) b) (plain_take (at k calls) b)
-unfolding taken
+later_agrees : (k : ℕ) (calls : List Call) (c : BodyController) (b : TickBlock) → Behind k calls c → Agrees (driven_on (Driving c) b) (plain_take (at k calls) b)
+unfolding driver_of
 later_agrees k calls c b m = rw (ap (eqb b.tick.k) (demand3 k m.0 c m.2).tick_length, ap (eqb b.number) (ticks_beside (Driving c) (at k calls) m)) (go (eqb b.tick.k k) (eqb b.number (plain_ticks (at k calls))))
   where
     go : (same next : Bool)
-        → Agrees (taken_with (cond same (cond next 0 10) 9) (Driving c) b) (cond same (cond next (plain_tick k calls b) (refused_at 10 (at k calls))) (refused_at 9 (at k calls)))
+        → Agrees (driven_with (driven_by (in_order (cond same (cond next (Ok tt) (Err Why.Order)) (Err Why.OtherTickLength)) c) b) (Driving c)) (cond same (cond next (plain_tick k calls b) (refused_at 10 (at k calls))) (refused_at 9 (at k calls)))
     go true true = tick_agrees k calls c b m
     go true false = refused_agrees 10 (Driving c) (at k calls) m
     go false next = refused_agrees 9 (Driving c) (at k calls) m
 
-block_agrees : (a : BlockAnswer) (p : Pass) (q : PlainPass) → Beside p q → Agrees (driven_with a p) (plain_read a q)
-block_agrees (Block.Refused r) p q m = refused_agrees (Blocks.refusal_number r) p q m
-block_agrees (Block.Read b) Empty none m = first_agrees b
-block_agrees (Block.Read b) Empty (at k calls) m = absurd m
-block_agrees (Block.Read b) (Driving c) none m = absurd m
-block_agrees (Block.Read b) (Driving c) (at k calls) m = later_agrees k calls c b m
+block_agrees : (a : Result TickBlock Refusal) (p : Pass) (q : PlainPass) → Beside p q → Agrees (driven_with (taken_with a p) p) (plain_read a q)
+block_agrees (Err r) p q m = refused_agrees (refusal_number r) p q m
+block_agrees (Ok b) Empty none m = first_agrees b
+block_agrees (Ok b) Empty (at k calls) m = absurd m
+block_agrees (Ok b) (Driving c) none m = absurd m
+block_agrees (Ok b) (Driving c) (at k calls) m = later_agrees k calls c b m
 
 -- ---- any list of blocks
 
@@ -194,7 +194,7 @@ pub record Passing (blocks : List (List ℕ)) (lines : List Line) (q : Pass) : T
   pub pass : Beside q (plain_pass blocks)
 
 passing : (blocks : List (List ℕ)) (lines : List Line) (q : Pass) → Passed blocks lines q → Passing blocks lines q
-unfolding Passed marks_of plain_marks plain_pass driven
+unfolding Passed marks_of plain_marks plain_pass driven taken
 passing [] [] q m = rw m (record { marks = refl; pass = tt })
 passing [] (line ∷ lines) q m = absurd m
 passing (block ∷ blocks) [] q m = absurd m

@@ -1,6 +1,8 @@
 -- The plain drive on a pass: what the lines of blocks given one after the other must say, and demand 3 for the calls of those blocks. It is fed
 -- the blocks alone. Assumes nothing.
-use Rattle.std.specs.Prelude.{ℕ, ◌≡◌, Bool, true, false, cond, List, [], ◌∷◌, eqb}
+use Rattle.std.specs.Prelude.{ℕ, ◌≡◌, Bool, true, false, cond, List, [], ◌∷◌, eqb, Result, Ok, Err}
+use Rattle.refusal.specs.declared.Refusal.{Refusal}
+use Rattle.refusal.specs.Refusal.{refusal_number}
 use Rattle.tick_length.specs.TickLength.{is_tick_length, seconds_of}
 use Rattle.gate_action.specs.Outcome.{letter_of}
 use Rattle.vision.specs.Vision.{active}
@@ -16,8 +18,6 @@ use Rattle.line_text.specs.declared.Ending.{Ending}
 use Rattle.line_text.specs.declared.Ending.TheVariants.{Wheels, Failed}
 use Rattle.line_text.specs.declared.Line.{Line}
 use Rattle.line_text.specs.declared.Line.TheVariants as Lines
-use Rattle.tick_block.specs.declared.BlockAnswer.{BlockAnswer}
-use Rattle.tick_block.specs.declared.BlockAnswer.TheVariants as Block
 use Rattle.tick_block.specs.declared.TickBlock.{TickBlock}
 use Rattle.tick_block.specs.Block as Blocks
 use Rattle.drive_pass.specs.declared.Driven.{Driven}
@@ -123,9 +123,9 @@ abbrev pub plain_take : PlainPass → TickBlock → PlainDriven
 plain_take none b = cond (eqb b.number 0) (cond (is_tick_length b.tick.k) (plain_tick b.tick.k [] b) (refused_at 1 none)) (refused_at 10 none)
 plain_take (at k calls) b = cond (eqb b.tick.k k) (cond (eqb b.number (Plain.driven k calls).ticks) (plain_tick k calls b) (refused_at 10 (at k calls))) (refused_at 9 (at k calls))
 
-abbrev pub plain_read : BlockAnswer → PlainPass → PlainDriven
-plain_read (Block.Read b) p = plain_take p b
-plain_read (Block.Refused r) p = refused_at (Blocks.refusal_number r) p
+abbrev pub plain_read : Result TickBlock Refusal → PlainPass → PlainDriven
+plain_read (Ok b) p = plain_take p b
+plain_read (Err r) p = refused_at (refusal_number r) p
 
 -- ---- any list of blocks, the latest first
 

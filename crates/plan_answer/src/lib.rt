@@ -20,23 +20,13 @@ impl PlanAnswer {
     pub fn disables_wheels(self) -> bool
         ensures { result ≡ disables_wheels self }
     {
-        match self {
-            PlanAnswer::Hold => false,
-            PlanAnswer::NoVision => true,
-            PlanAnswer::Keep => false,
-            PlanAnswer::NewPlan(seed) => false,
-        }
+        matches!(self, PlanAnswer::NoVision)
     }
 
     // Whether a planner failure counts.
     pub fn needs_plan(self) -> bool
         ensures { result ≡ needs_plan self }
     {
-        match self {
-            PlanAnswer::Hold => false,
-            PlanAnswer::NoVision => false,
-            PlanAnswer::Keep => false,
-            PlanAnswer::NewPlan(seed) => true,
-        }
+        matches!(self, PlanAnswer::NewPlan(_))
     }
 }

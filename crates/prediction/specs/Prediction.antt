@@ -1,18 +1,20 @@
 -- Document 01, 'Gate' and 'Stand-ins': what an outcome does to the six predicted numbers. Assumes nothing.
-use Rattle.std.specs.Prelude.{cond, Float}
+use Rattle.std.specs.Prelude.{cond}
 use Rattle.na.specs.declared.Vector3f.{Vector3f}
-use Rattle.na.specs.declared.Vector4f.{Vector4f}
 use Rattle.na.specs.declared.Vector6f.{Vector6f}
-use Rattle.matrices.specs.declared.Matrix3x4.{Matrix3x4}
-use Rattle.matrices.specs.Matrix.{product_of3x4}
+use Rattle.na.specs.Vector.{entries4, vector3_of}
+use Rattle.matrices.specs.Matrix.{product_of}
 use Rattle.gate_action.specs.declared.GateAction.{GateAction}
 use Rattle.gate_action.specs.Outcome.{overwrites}
+use Rattle.inputs.specs.declared.SightInput.{SightInput}
 
--- 'velocity from wheels with the gyro third'; m is wheel-to-twist at the sighted heading
-unfoldable pub velocity_of : Matrix3x4 → Vector4f → Float → Vector3f
-velocity_of m wheels gyro = record { x = (product_of3x4 m wheels).x; y = (product_of3x4 m wheels).y; z = gyro }
+-- 'velocity from wheels with the gyro third'
+unfoldable pub velocity_of : SightInput → Vector3f
+velocity_of i =
+    let wheels = vector3_of (product_of i.wheel2twist (entries4 i.wheel_vel_meas)) in
+    record { x = wheels.x; y = wheels.y; z = i.imu_gyro_theta_meas }
 
 -- 'C and J set pose, and velocity from wheels with the gyro third'; every other outcome leaves the prediction
-unfoldable pub predicted_after : GateAction → Vector6f → Vector3f → Vector4f → Float → Matrix3x4 → Vector6f
-predicted_after a predicted sighting wheels gyro m =
-    cond (overwrites a) (record { pose = sighting; twist = velocity_of m wheels gyro }) predicted
+unfoldable pub predicted_after : GateAction → SightInput → Vector6f
+predicted_after a i =
+    cond (overwrites a) (record { pose = i.vision_pose_meas; twist = velocity_of i }) i.predicted_state

@@ -4,10 +4,10 @@ use mathlib.Core.Bool.{false}
 use Rattle.na.specs.declared.Vector4f.{Vector4f}
 use Rattle.na.specs.declared.Vector6f.{Vector6f}
 use Rattle.divergence.specs.declared.TrackingDivergenceState.TheVariants.{Normal}
-use Rattle.recovery.specs.declared.HeldState.TheVariants.{Absent}
+use Rattle.std.specs.Prelude.{None}
 use Rattle.recovery.specs.Recovery.{tracking_error_exceeded, recovery}
 
 -- with none held Normal stays
-pub none_held_normal : (estimate : Vector6f) (wheels : Vector4f) → recovery Normal Absent estimate wheels ≡ record { state = Normal; reset = false }
+pub none_held_normal : (estimate : Vector6f) (wheels : Vector4f) → recovery Normal None estimate wheels ≡ record { state = Normal; reset = false }
 unfolding recovery tracking_error_exceeded
 none_held_normal estimate wheels = refl

@@ -1,5 +1,5 @@
 -- The tracking error and recovery, document 01, 'Steer'. Assumes nothing.
-use Rattle.std.specs.Prelude.{Bool, true, false, cond}
+use Rattle.std.specs.Prelude.{Bool, true, false, cond, Option, None, Some}
 use Rattle.std.specs.Float.{binary32}
 use Rattle.float_bits.specs.Magnitude.{magnitude}
 use Rattle.float_hypot.specs.Hypot.{hypotenuse}
@@ -11,8 +11,6 @@ use Rattle.params.specs.declared.TrackingErrors.{TrackingErrors}
 use Rattle.params.specs.Params.{tracking_error_threshold}
 use Rattle.divergence.specs.declared.TrackingDivergenceState.{TrackingDivergenceState}
 use Rattle.divergence.specs.declared.TrackingDivergenceState.TheVariants.{Normal, Recovering}
-use Rattle.recovery.specs.declared.HeldState.{HeldState}
-use Rattle.recovery.specs.declared.HeldState.TheVariants.{Absent, Held}
 use Rattle.recovery.specs.declared.RecoveryAnswer.{RecoveryAnswer}
 use Rattle.tracking_limits.specs.Limits.{any_exceeds, at_rest}
 
@@ -29,12 +27,12 @@ tracking_errors sample estimate =
     }
 
 -- 'Steer': an error exceeds 1.0, 1.57, 5.0 or 10.0; with no sample held none does
-unfoldable pub tracking_error_exceeded : HeldState → Vector6f → Bool
-tracking_error_exceeded Absent estimate = false
-tracking_error_exceeded (Held sample) estimate = any_exceeds (tracking_errors sample estimate) tracking_error_threshold
+unfoldable pub tracking_error_exceeded : Option Vector6f → Vector6f → Bool
+tracking_error_exceeded None estimate = false
+tracking_error_exceeded (Some sample) estimate = any_exceeds (tracking_errors sample estimate) tracking_error_threshold
 
 -- 'Steer': Normal turns to recovering if an error exceeds; recovering with every wheel at rest resets within the tick
-unfoldable pub recovery : TrackingDivergenceState → HeldState → Vector6f → Vector4f → RecoveryAnswer
+unfoldable pub recovery : TrackingDivergenceState → Option Vector6f → Vector6f → Vector4f → RecoveryAnswer
 recovery Normal held estimate wheels =
     cond (tracking_error_exceeded held estimate) (record { state = Recovering; reset = false }) (record { state = Normal; reset = false })
 recovery Recovering held estimate wheels =

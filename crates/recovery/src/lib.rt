@@ -13,13 +13,6 @@ use params::{TRACKING_ERROR_THRESHOLD, TrackingErrors};
 use tracking_limits::{any_exceeds, at_rest};
 use vectors::sub;
 
-// The state of the sample that is held, if one is.
-#[derive(Clone, Copy)]
-pub enum HeldState {
-    Absent,
-    Held(Vector6f),
-}
-
 // The state after a tick; where `reset` is set, the caller resets the rest too.
 #[derive(Clone, Copy)]
 pub struct RecoveryAnswer {
@@ -44,12 +37,12 @@ fn tracking_errors(traj_state: Vector6f, estimate: Vector6f) -> TrackingErrors
 
 // No error without a sample.
 #[tactic(auto, unfolding(crate::specs::Recovery::tracking_error_exceeded))]
-fn tracking_error_exceeded(held: HeldState, estimate: Vector6f) -> bool
+fn tracking_error_exceeded(held: Option<Vector6f>, estimate: Vector6f) -> bool
     ensures { result ≡ tracking_error_exceeded held estimate }
 {
     match held {
-        HeldState::Absent => false,
-        HeldState::Held(s) => any_exceeds(tracking_errors(s, estimate), TRACKING_ERROR_THRESHOLD),
+        None => false,
+        Some(s) => any_exceeds(tracking_errors(s, estimate), TRACKING_ERROR_THRESHOLD),
     }
 }
 
@@ -57,38 +50,26 @@ fn tracking_error_exceeded(held: HeldState, estimate: Vector6f) -> bool
 #[tactic(auto, unfolding(crate::specs::Recovery::recovery))]
 pub fn update_tracking_divergence_recovery(
     state: TrackingDivergenceState,
-    held: HeldState,
+    held: Option<Vector6f>,
     estimate: Vector6f,
     wheels: Vector4f,
 ) -> RecoveryAnswer
     ensures { result ≡ recovery state held estimate wheels }
 {
     match state {
-        TrackingDivergenceState::Normal => {
-            if tracking_error_exceeded(held, estimate) {
-                RecoveryAnswer {
-                    state: TrackingDivergenceState::Recovering,
-                    reset: false,
-                }
-            } else {
-                RecoveryAnswer {
-                    state: TrackingDivergenceState::Normal,
-                    reset: false,
-                }
+        TrackingDivergenceState::Normal if tracking_error_exceeded(held, estimate) => {
+            RecoveryAnswer {
+                state: TrackingDivergenceState::Recovering,
+                reset: false,
             }
         }
-        TrackingDivergenceState::Recovering => {
-            if at_rest(wheels) {
-                RecoveryAnswer {
-                    state: TrackingDivergenceState::Normal,
-                    reset: true,
-                }
-            } else {
-                RecoveryAnswer {
-                    state: TrackingDivergenceState::Recovering,
-                    reset: false,
-                }
-            }
-        }
+        TrackingDivergenceState::Recovering if at_rest(wheels) => RecoveryAnswer {
+            state: TrackingDivergenceState::Normal,
+            reset: true,
+        },
+        _ => RecoveryAnswer {
+            state,
+            reset: false,
+        },
     }
 }

@@ -1,15 +1,14 @@
 -- The list of the encoder lag: the numbers that a header wants, the answer to a call, and what is compared after it. Assumes nothing.
-use Rattle.std.specs.Prelude.{ℕ, Bool, cond, ◌&&◌, List, eqb, get_or, set}
+use Rattle.std.specs.Prelude.{ℕ, Bool, cond, ◌&&◌, List, eqb, get_or, set, Result, Ok, Err}
 use Rattle.std.specs.Float.{binary32}
 use Rattle.std.specs.Float.Ieee.{of_bits}
-use Rattle.na.specs.Vector.{zeros2}
+use Rattle.na.specs.Vector.{zeros2, vector2_of}
 use Rattle.first_order_lag.specs.declared.FirstOrderLag.{FirstOrderLag}
-use Rattle.encoder_lag.specs.declared.FirstOrderLagAnswer.{FirstOrderLagAnswer}
-use Rattle.encoder_lag.specs.declared.FirstOrderLagAnswer.TheVariants.{Made, Refused}
+use Rattle.refusal.specs.declared.Refusal.{Refusal}
 use Rattle.encoder_lag.specs.EncoderLag.{lag_of}
 use Rattle.first_order_lag.specs.FirstOrderLag.{stepped_of, inverted_of, reset_of}
 use Rattle.block_words.specs.Word.{word_at}
-use Rattle.block_floats.specs.Floats.{vector2_at}
+use Rattle.block_floats.specs.Floats.{floats_at}
 use Rattle.rust_vectors.specs.declared.lag.LagAnswer.{LagAnswer}
 use Rattle.rust_vectors.specs.Memory.{word, unanswered}
 use Rattle.rust_vectors.specs.Kinds.{by_kind3}
@@ -27,8 +26,8 @@ is_wanted l s =
 unfoldable pub answer : FirstOrderLag → List ℕ → LagAnswer
 answer l s =
     by_kind3 (word_at s 0)
-    (record { lag = stepped_of l (vector2_at s 1); output = zeros2 })
-    (record { lag = l; output = inverted_of l (vector2_at s 1) })
+    (record { lag = stepped_of l (vector2_of (floats_at s 1 2)); output = zeros2 })
+    (record { lag = l; output = inverted_of l (vector2_of (floats_at s 1 2)) })
     (record { lag = reset_of l; output = zeros2 })
 
 -- what is compared after a call of a lag with the state of the words: the output and the state
@@ -38,9 +37,9 @@ step_made l s ws =
     set (set (set (set ws 0 (word a.output.x)) 1 (word a.output.y)) 2 (word a.lag.state.x)) 3 (word a.lag.state.y)
 
 -- a lag of other numbers than the header's is none
-abbrev pub step_by : FirstOrderLagAnswer → List ℕ → List ℕ → List ℕ → List ℕ
-step_by (Made l) h s ws = cond (is_wanted l h) (step_made l s ws) (unanswered ws)
-step_by Refused h s ws = unanswered ws
+abbrev pub step_by : Result FirstOrderLag Refusal → List ℕ → List ℕ → List ℕ → List ℕ
+step_by (Ok l) h s ws = cond (is_wanted l h) (step_made l s ws) (unanswered ws)
+step_by (Err r) h s ws = unanswered ws
 
 unfoldable pub step : List ℕ → List ℕ → List ℕ → List ℕ
 step h s ws = step_by (lag_of (word_at h 0)) h s ws

@@ -10,13 +10,7 @@ use std::io;
 pub(crate) fn agrees(words: &[u32; 12], call: &[u8], at: u8) -> bool
     ensures { result ≡ agrees_up_to words.now call.now at 12 }
 {
-    let mut same = true;
-    let mut i: usize = 0;
-    while i < 12 {
-        same = same & (words[i] == word_at(call, (at as usize) + i));
-        i += 1;
-    }
-    same
+    (0..12).all(|i| words[i] == word_at(call, at as usize + i))
 }
 
 // Shows the call of this number of the list, which is a mismatch.

@@ -3,9 +3,9 @@ ghost use Rattle.std.specs.Prelude.{◌≡◌};
 ghost use Rattle.rust_vectors.specs.Lag.{is_wanted, answer, step_made, step};
 
 use crate::remembered::UNANSWERED;
-use block_floats::vec2_at;
+use block_floats::floats_at;
 use block_words::word_at;
-use encoder_lag::{FirstOrderLagAnswer, new_from_horizon};
+use encoder_lag::new_from_horizon;
 use first_order_lag::FirstOrderLag;
 use float_bits::{from_bits, to_bits};
 use na::{Vector2f, ZEROS_2};
@@ -35,7 +35,7 @@ fn is_wanted(l: FirstOrderLag, header: &[u8]) -> bool
 fn answer(l: FirstOrderLag, call: &[u8]) -> LagAnswer
     ensures { result ≡ answer l call.now }
 {
-    let input = vec2_at(call, 1);
+    let input = Vector2f::from(floats_at(call, 1));
     match word_at(call, 0) {
         0 => LagAnswer {
             lag: l.step(input),
@@ -56,11 +56,10 @@ fn answer(l: FirstOrderLag, call: &[u8]) -> LagAnswer
 fn step_made(mut l: FirstOrderLag, call: &[u8], words: &mut [u32; 12])
     ensures { words.new ≡ step_made l call.now words.old }
 {
-    let state = Vector2f {
+    l.state = Vector2f {
         x: from_bits(words[2]),
         y: from_bits(words[3]),
     };
-    l.state = state;
     let a = answer(l, call);
     words[0] = to_bits(a.output.x);
     words[1] = to_bits(a.output.y);
@@ -74,14 +73,14 @@ pub(crate) fn step(header: &[u8], call: &[u8], words: &mut [u32; 12])
     ensures { words.new ≡ step header.now call.now words.old }
 {
     match new_from_horizon(word_at(header, 0)) {
-        FirstOrderLagAnswer::Made(l) => {
+        Ok(l) => {
             if is_wanted(l, header) {
                 step_made(l, call, words);
             } else {
                 words[0] = UNANSWERED;
             }
         }
-        FirstOrderLagAnswer::Refused => {
+        Err(_) => {
             words[0] = UNANSWERED;
         }
     }

@@ -1,6 +1,7 @@
 // How a list is laid out: the number of runs; each run a header and calls.
 ghost use Rattle.std.specs.Prelude.{◌≤◌};
 
+// An enum, for a trait would be five types and their impls in place of the arms of two matches.
 #[derive(Clone, Copy)]
 pub enum ListOf {
     Pid1,

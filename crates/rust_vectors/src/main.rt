@@ -58,9 +58,9 @@ fn step(list: ListOf, header: &[u8], call: &[u8], words: &mut [u32; 12])
     ensures { words.new ≡ step_of list header.now call.now words.old }
 {
     match list {
-        ListOf::Pid1 => pids::step1(header, call, words),
-        ListOf::Pid3 => pids::step3(header, call, words),
-        ListOf::Pid4 => pids::step4(header, call, words),
+        ListOf::Pid1 => pids::step::<1>(header, call, words),
+        ListOf::Pid3 => pids::step::<3>(header, call, words),
+        ListOf::Pid4 => pids::step::<4>(header, call, words),
         ListOf::Brake => brake::step(header, call, words),
         ListOf::Lag => lag::step(header, call, words),
     }
@@ -91,13 +91,11 @@ fn run_calls(
     mut tally: Tally,
 ) -> io::Result<Tally> {
     let mut words = [0; 12];
-    let mut left = calls;
-    while left > 0 {
+    for _ in 0..calls {
         tally = run_call(rt, list, header, &mut words, tally)?;
         if tally.cut_short {
             break;
         }
-        left -= 1;
     }
     Ok(tally)
 }
@@ -118,13 +116,11 @@ fn run_list(rt: &HostRuntime, list: ListOf) -> io::Result<Tally> {
     let mut first = [0; 4];
     let mut tally = Tally::new();
     tally.cut_short = read_full(&mut rt.stdin(), &mut first)? != 4;
-    let mut left = word_at(&first, 0);
-    while left > 0 {
+    for _ in 0..word_at(&first, 0) {
         tally = run_run(rt, list, tally)?;
         if tally.cut_short {
             break;
         }
-        left -= 1;
     }
     Ok(tally)
 }

@@ -1,2 +1,2 @@
--- What the contracts of `seeding` cite: document 01, 'Gate'. Definitions only; the laws about them stand in proofs/. Assumes nothing.
+-- What the contracts of `seeding` cite: document 01, 'Gate'. Definitions only. Assumes nothing.
 pub mod Seeding

@@ -54,7 +54,7 @@ impl Seeding {
             y: self.pos_sq_sum.y + y * y,
         };
         Seeding {
-            n: std::num::wrapping_add_u32(self.n, 1),
+            n: self.n.wrapping_add(1),
             pos_sum: sum,
             pos_sq_sum: sq_sum,
         }

@@ -1,5 +1,5 @@
 // Where the inputs of sight and plan lie, document 01, 'Records'. A part is named by its first word,
-// a u8 where it has several, as `block_floats` reads it.
+// a u8 where it has several, as `block_floats` reads it, and a matrix by the first word of each row.
 
 pub(crate) const SIGHTING: u8 = 4;
 
@@ -9,11 +9,4 @@ pub(crate) const PREDICTED: u8 = 12;
 
 pub(crate) const ESTIMATE: u8 = 18;
 
-pub(crate) const WHEEL_TO_TWIST: u8 = 90;
-
-// What each flag adds to the flags' word.
-pub(crate) const SEEN: u32 = 1;
-
-pub(crate) const HALT: u32 = 2;
-
-pub(crate) const ESTIMATOR_FAILED: u32 = 8;
+pub(crate) const WHEEL_TO_TWIST: [u8; 3] = [90, 94, 98];

@@ -1,30 +1,23 @@
-// A state and a matrix of a block. A part lies among the 128 words.
-ghost use Rattle.std.specs.Prelude.{◌≡◌, ◌+◌, ◌<◌};
-ghost use Rattle.sight_inputs.specs.Parts.{vector6_at, matrix3x4_at};
+// A matrix of a block.
+ghost use Rattle.std.specs.Prelude.{◌≡◌, ◌<◌, slice_index};
+ghost use Rattle.block_floats.specs.Floats.{floats_at};
+ghost use Rattle.sight_inputs.specs.Parts.{matrix_of_rows};
 
-use block_floats::{vec3_at, vec4_at};
-use matrices::Matrix3x4;
-use na::Vector6f;
+use block_floats::floats_at;
+use matrices::Matrix;
+use std::array;
 
-#[tactic(auto, unfolding(crate::specs::Parts::vector6_at))]
-pub(crate) fn vec6_at(block: &[u8], at: u8) -> Vector6f
-    requires { at + 5 < 128 }
-    ensures { result ≡ vector6_at block.now at }
+// The matrix of four columns whose rows begin at these words. Over the columns too it is not
+// proved: where R is 0, nothing says that a row fits in memory, as `from_fn` asks.
+pub(crate) fn matrix_at<const R: usize>(block: &[u8], rows: [u8; R]) -> Matrix<R, 4>
+    ensures { result ≡ matrix_of_rows block.now rows.entry }
 {
-    Vector6f {
-        pose: vec3_at(block, at),
-        twist: vec3_at(block, at + 3),
-    }
-}
-
-#[tactic(auto, unfolding(crate::specs::Parts::matrix3x4_at))]
-pub(crate) fn mat3x4_at(block: &[u8], at: u8) -> Matrix3x4
-    requires { at + 11 < 128 }
-    ensures { result ≡ matrix3x4_at block.now at }
-{
-    Matrix3x4 {
-        r0: vec4_at(block, at),
-        r1: vec4_at(block, at + 4),
-        r2: vec4_at(block, at + 8),
+    Matrix {
+        rows: array::from_fn(
+            |i: usize| -> [f32; 4]
+                requires { i < R }
+                ensures { result ≡ floats_at block.entry.now (slice_index rows i) 4 }
+            { floats_at(block, rows[i]) },
+        ),
     }
 }

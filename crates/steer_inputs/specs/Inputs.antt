@@ -4,8 +4,9 @@ use Rattle.inputs.specs.declared.FinishInput.{FinishInput}
 use Rattle.inputs.specs.declared.SteerInput.{SteerInput}
 use Rattle.block_floats.specs.Floats.{float_at, vector3_at, vector4_at}
 use Rattle.block_check.specs.Layout as at
-use Rattle.sight_inputs.specs.Inputs.{stop, planner_failed}
-use Rattle.steer_inputs.specs.Parts.{sample_at, matrix3_at, matrix4x3_at}
+use Rattle.sight_inputs.specs.Flags.{stop, planner_failed}
+use Rattle.sight_inputs.specs.Parts.{matrix_at}
+use Rattle.steer_inputs.specs.Parts.{sample_at}
 
 -- steer takes samples, wheels, cosine and sine, stop and the planner's mark
 unfoldable pub steer_input : List ℕ → SteerInput
@@ -13,8 +14,7 @@ steer_input s = record {
   fresh = sample_at s at.fresh;
   next = sample_at s at.next;
   wheel_vel_meas = vector4_at s at.wheels;
-  cos = float_at s at.cosine;
-  sin = float_at s at.sine;
+  heading = record { cos = float_at s at.cosine; sin = float_at s at.sine };
   stop = stop s;
   planner_failed = planner_failed s;
 }
@@ -22,8 +22,8 @@ steer_input s = record {
 -- finish takes the other matrices and the friction force
 unfoldable pub finish_input : List ℕ → FinishInput
 finish_input s = record {
-  i_inv = matrix3_at s at.inverse_inertia;
-  twist2wheel = matrix4x3_at s at.twist_to_wheel;
-  accel2wheel = matrix4x3_at s at.accel_to_wheel;
+  i_inv = matrix_at s at.inverse_inertia;
+  twist2wheel = matrix_at s at.twist_to_wheel;
+  accel2wheel = matrix_at s at.accel_to_wheel;
   friction_force_local = vector3_at s at.friction;
 }

@@ -8,40 +8,40 @@ ghost use Rattle.std.specs.Prelude.{◌≡◌};
 ghost use Rattle.steer_inputs.specs.Inputs.{steer_input, finish_input};
 
 use crate::layout::{
-    ACCEL_TO_WHEEL, COSINE, FRESH, FRICTION, INVERSE_INERTIA, NEXT, PLANNER_FAILED, SINE, STOP,
-    TWIST_TO_WHEEL,
+    ACCEL_TO_WHEEL, COSINE, FRESH, FRICTION, INVERSE_INERTIA, NEXT, SINE, TWIST_TO_WHEEL,
 };
-use crate::parts::{mat3_at, mat4x3_at, sample_at};
-use block_check::FLAGS;
-use block_floats::{float_at, vec3_at, vec4_at};
-use block_words::word_at;
+use crate::parts::{matrix_at, sample_at};
+use block_floats::{float_at, floats_at};
 use inputs::{FinishInput, SteerInput};
+use matrices::rotation::Rotation;
 use sight_inputs::WHEELS;
+use sight_inputs::flag::Flag;
 
-#[tactic(auto, unfolding(crate::specs::Inputs::steer_input))]
+#[tactic(auto, using(block_floats::proofs::Vectors::four), unfolding(crate::specs::Inputs::steer_input))]
 pub fn steer_input(block: &[u8]) -> SteerInput
     ensures { result ≡ steer_input block.now }
 {
-    let flags = word_at(block, FLAGS);
     SteerInput {
         fresh: sample_at(block, FRESH),
         next: sample_at(block, NEXT),
-        wheel_vel_meas: vec4_at(block, WHEELS),
-        cos: float_at(block, COSINE),
-        sin: float_at(block, SINE),
-        stop: flags / STOP % 2 == 1,
-        planner_failed: flags / PLANNER_FAILED % 2 == 1,
+        wheel_vel_meas: floats_at(block, WHEELS).into(),
+        heading: Rotation {
+            cos: float_at(block, COSINE),
+            sin: float_at(block, SINE),
+        },
+        stop: Flag::Stop.is_set(block),
+        planner_failed: Flag::PlannerFailed.is_set(block),
     }
 }
 
-#[tactic(auto, unfolding(crate::specs::Inputs::finish_input))]
+#[tactic(auto, using(block_floats::proofs::Vectors::three), unfolding(crate::specs::Inputs::finish_input, sight_inputs::specs::Parts::matrix_at))]
 pub fn finish_input(block: &[u8]) -> FinishInput
     ensures { result ≡ finish_input block.now }
 {
     FinishInput {
-        i_inv: mat3_at(block, INVERSE_INERTIA),
-        twist2wheel: mat4x3_at(block, TWIST_TO_WHEEL),
-        accel2wheel: mat4x3_at(block, ACCEL_TO_WHEEL),
-        friction_force_local: vec3_at(block, FRICTION),
+        i_inv: matrix_at(block, INVERSE_INERTIA),
+        twist2wheel: matrix_at(block, TWIST_TO_WHEEL),
+        accel2wheel: matrix_at(block, ACCEL_TO_WHEEL),
+        friction_force_local: floats_at(block, FRICTION).into(),
     }
 }

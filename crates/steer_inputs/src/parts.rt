@@ -1,47 +1,36 @@
-// Samples and matrices of a block. A part lies among the 128 words.
-ghost use Rattle.std.specs.Prelude.{◌≡◌, ◌+◌, ◌<◌};
-ghost use Rattle.steer_inputs.specs.Parts.{sample_at, matrix3_at, matrix4x3_at};
+// Samples and matrices of a block.
+ghost use Rattle.std.specs.Prelude.{◌≡◌, ◌+◌, ◌<◌, slice_index};
+ghost use Rattle.block_floats.specs.Floats.{floats_at};
+ghost use Rattle.sight_inputs.specs.Parts.{matrix_of_rows};
+ghost use Rattle.steer_inputs.specs.Parts.{sample_at};
 
-use block_floats::vec3_at;
-use matrices::{Matrix3, Matrix4x3};
+use block_floats::floats_at;
+use matrices::Matrix;
 use memory::Sample;
-use na::Vector6f;
+use std::array;
 
-#[tactic(auto, unfolding(crate::specs::Parts::sample_at, sight_inputs::specs::Parts::vector6_at))]
+// The matrix of three columns whose rows begin at these words. Over the columns too it is not
+// proved: where R is 0, nothing says that a row fits in memory, as `from_fn` asks.
+pub(crate) fn matrix_at<const R: usize>(block: &[u8], rows: [u8; R]) -> Matrix<R, 3>
+    ensures { result ≡ matrix_of_rows block.now rows.entry }
+{
+    Matrix {
+        rows: array::from_fn(
+            |i: usize| -> [f32; 3]
+                requires { i < R }
+                ensures { result ≡ floats_at block.entry.now (slice_index rows i) 3 }
+            { floats_at(block, rows[i]) },
+        ),
+    }
+}
+
+#[tactic(auto, using(block_floats::proofs::Vectors::three), unfolding(crate::specs::Parts::sample_at, sight_inputs::specs::Parts::vector6_at))]
 pub(crate) fn sample_at(block: &[u8], at: u8) -> Sample
-    requires { at + 8 < 128 }
+    requires { at + 6 < 128 }
     ensures { result ≡ sample_at block.now at }
 {
     Sample {
-        state: Vector6f {
-            pose: vec3_at(block, at),
-            twist: vec3_at(block, at + 3),
-        },
-        accel: vec3_at(block, at + 6),
-    }
-}
-
-#[tactic(auto, unfolding(crate::specs::Parts::matrix3_at))]
-pub(crate) fn mat3_at(block: &[u8], at: u8) -> Matrix3
-    requires { at + 8 < 128 }
-    ensures { result ≡ matrix3_at block.now at }
-{
-    Matrix3 {
-        r0: vec3_at(block, at),
-        r1: vec3_at(block, at + 3),
-        r2: vec3_at(block, at + 6),
-    }
-}
-
-#[tactic(auto, unfolding(crate::specs::Parts::matrix4x3_at))]
-pub(crate) fn mat4x3_at(block: &[u8], at: u8) -> Matrix4x3
-    requires { at + 11 < 128 }
-    ensures { result ≡ matrix4x3_at block.now at }
-{
-    Matrix4x3 {
-        r0: vec3_at(block, at),
-        r1: vec3_at(block, at + 3),
-        r2: vec3_at(block, at + 6),
-        r3: vec3_at(block, at + 9),
+        state: floats_at(block, at).into(),
+        accel: floats_at(block, at + 6).into(),
     }
 }

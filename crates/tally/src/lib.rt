@@ -5,7 +5,7 @@ ghost use Rattle.std.specs.Prelude.{◌≡◌, ◌-◌};
 ghost use Rattle.tally.specs.Tally.{none_yet, counted};
 
 // What a list has shown so far.
-#[derive(Clone, Copy)]
+#[derive(Clone, Copy, Debug, Default, PartialEq, Eq)]
 pub struct Tally {
     pub records: u64,
     pub mismatches: u64,
@@ -18,11 +18,7 @@ impl Tally {
     pub fn new() -> Self
         ensures { result ≡ none_yet }
     {
-        Self {
-            records: 0,
-            mismatches: 0,
-            cut_short: false,
-        }
+        Self::default()
     }
 
     // Some records more, with so many mismatches among them.
@@ -31,9 +27,9 @@ impl Tally {
         ensures { result ≡ counted self records mismatches }
     {
         Self {
-            records: std::num::wrapping_add_u64(self.records, records),
-            mismatches: std::num::wrapping_add_u64(self.mismatches, mismatches),
-            cut_short: self.cut_short,
+            records: self.records.wrapping_add(records),
+            mismatches: self.mismatches.wrapping_add(mismatches),
+            ..self
         }
     }
 
@@ -41,10 +37,6 @@ impl Tally {
     pub fn left_to_show(self) -> u64
         ensures { result ≡ 8 - self.mismatches }
     {
-        if self.mismatches < 8 {
-            8 - self.mismatches
-        } else {
-            0
-        }
+        8u64.saturating_sub(self.mismatches)
     }
 }

@@ -1,3 +1,4 @@
 -- Laws that belong to no one function. Assumes nothing.
-pub mod Placing
+pub mod Growing
 pub mod Digits
+pub mod Placing

@@ -1,42 +1,79 @@
-// Bytes and decimal numbers, each put at a place of a lent array, which holds a line. Each function
-// answers the place behind what it put, the array's end at most: what doesn't fit is left out.
+// A line's text, as it grows: bytes, texts and decimal numbers, each behind what is there.
 #![tactic(auto)]
 
-ghost use Rattle.std.specs.Prelude.{[], ◌∷◌};
+ghost use Rattle.std.specs.Prelude.{◌≡◌, [], ◌∷◌, ◌++◌, length, take, drop};
 ghost use Rattle.text_pieces.specs.Pieces.{decimal, field};
-ghost use Rattle.text_pieces.specs.Puts.{Puts};
+ghost use Rattle.text_pieces.specs.Puts.{Within};
 
-// One byte. Here alone the array is a slice, whose length the logic knows.
-pub fn put_byte(buf: &mut [u8], at: usize, byte: u8) -> usize
-    ensures { Puts buf.old at (byte ∷ []) buf.new result }
-{
-    if at < buf.len() {
-        buf[at] = byte;
-        at + 1
-    } else {
-        buf.len()
-    }
+use itoa::Buffer;
+use std::marker::Model;
+
+// A text of at most N bytes, which lie in the value itself; what doesn't fit is left out. (A `write!`
+// is no plainer: it can answer an error, and no law says that it answers none where there is room.)
+#[derive(Drop)]
+pub struct Text<const N: usize> {
+    bytes: [u8; N],
+    len: usize,
 }
 
-// A number's decimal digits: the first ones by a call of itself, and then the last one. (`io::decimal`
-// fills an array of its own, which would have to be copied.)
-#[tactic(auto, using(crate::proofs::Placing::then, crate::proofs::Digits::one_digit, crate::proofs::Digits::last_digit))]
-pub fn put_decimal(buf: &mut [u8; 128], at: usize, n: u32) -> usize
-    ensures { Puts buf.old at (decimal n) buf.new result }
-{
-    if n < 10 {
-        put_byte(buf, at, 48 + n as u8)
-    } else {
-        let at = put_decimal(buf, at, n / 10);
-        put_byte(buf, at, 48 + (n % 10) as u8)
-    }
+// Clauses see the bytes so far.
+impl<const N: usize> Model for Text<N> {
+    ghost use Rattle.std.specs.Prelude.{List, ℕ, take, ◌≤◌};
+
+    ghost Value = { List ℕ };
+
+    ghost view = { λ t. take t.len t.bytes };
+
+    ghost invariant = { λ t. t.len ≤ N };
 }
 
-// A space and a number.
-#[tactic(auto, using(crate::proofs::Placing::then))]
-pub fn put_number(buf: &mut [u8; 128], at: usize, n: u32) -> usize
-    ensures { Puts buf.old at (field (decimal n)) buf.new result }
-{
-    let at = put_byte(buf, at, b' ');
-    put_decimal(buf, at, n)
+impl<const N: usize> Text<N> {
+    pub fn new() -> Self
+        ensures { result ≡ [] }
+    {
+        Text {
+            bytes: [0; N],
+            len: 0,
+        }
+    }
+
+    // A text behind what is there.
+    #[tactic(auto, using(crate::proofs::Growing::stored))]
+    pub fn push(&mut self, text: &[u8])
+        ensures { self.new ≡ take N (self.old ++ text.now) }
+    {
+        let len = (N - self.len).min(text.len());
+        let bytes = &mut self.bytes[..];
+        bytes[self.len..self.len + len].copy_from_slice(&text[..len]);
+        self.len += len;
+    }
+
+    // A number's decimal digits.
+    #[tactic(auto, using(crate::proofs::Digits::same))]
+    pub fn push_decimal(&mut self, n: u32)
+        ensures { self.new ≡ take N (self.old ++ decimal n) }
+    {
+        self.push(Buffer::new().format(n).as_bytes());
+    }
+
+    // A space and a number.
+    #[tactic(auto, using(crate::proofs::Growing::growing))]
+    pub fn push_number(&mut self, n: u32)
+        ensures { self.new ≡ take N (self.old ++ field (decimal n)) }
+    {
+        self.push(b" ");
+        self.push_decimal(n);
+    }
+
+    // Puts the text at the start of buf, and answers how long it is; what stands behind it there stays.
+    // (`Within` is what `&buf[..r]` asks.)
+    pub fn put(&self, buf: &mut [u8; N]) -> usize
+        ensures value { result ≡ length self.now }
+        ensures buf_after { buf.new ≡ self.now ++ drop (length self.now) buf.old }
+        ensures within { Within result buf.new }
+    {
+        let len = self.len;
+        buf[..len].copy_from_slice(&self.bytes[..len]);
+        len
+    }
 }

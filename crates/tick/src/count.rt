@@ -8,42 +8,42 @@ use gate_action::GateAction;
 impl Counts {
     // One outcome more. The tick limit keeps every count far from wrapping.
     #[tactic(auto, unfolding(crate::specs::Counts::counted))]
-    pub fn count(mut self, action: GateAction) -> Counts
+    pub fn count(self, action: GateAction) -> Counts
         ensures { result ≡ counted self action }
     {
         match action {
-            GateAction::NoVision => {
-                self.quiet = std::num::wrapping_add_u32(self.quiet, 1);
-                self
-            }
-            GateAction::Accumulate => {
-                self.gathered = std::num::wrapping_add_u32(self.gathered, 1);
-                self
-            }
-            GateAction::SeedComplete => {
-                self.complete = std::num::wrapping_add_u32(self.complete, 1);
-                self
-            }
-            GateAction::SeedReset => {
-                self.reseeded = std::num::wrapping_add_u32(self.reseeded, 1);
-                self
-            }
-            GateAction::Accept => {
-                self.taken = std::num::wrapping_add_u32(self.taken, 1);
-                self
-            }
-            GateAction::AcceptJump => {
-                self.jump = std::num::wrapping_add_u32(self.jump, 1);
-                self
-            }
-            GateAction::FirstReject => {
-                self.first = std::num::wrapping_add_u32(self.first, 1);
-                self
-            }
-            GateAction::Reject => {
-                self.refused = std::num::wrapping_add_u32(self.refused, 1);
-                self
-            }
+            GateAction::NoVision => Counts {
+                quiet: self.quiet.wrapping_add(1),
+                ..self
+            },
+            GateAction::Accumulate => Counts {
+                gathered: self.gathered.wrapping_add(1),
+                ..self
+            },
+            GateAction::SeedComplete => Counts {
+                complete: self.complete.wrapping_add(1),
+                ..self
+            },
+            GateAction::SeedReset => Counts {
+                reseeded: self.reseeded.wrapping_add(1),
+                ..self
+            },
+            GateAction::Accept => Counts {
+                taken: self.taken.wrapping_add(1),
+                ..self
+            },
+            GateAction::AcceptJump => Counts {
+                jump: self.jump.wrapping_add(1),
+                ..self
+            },
+            GateAction::FirstReject => Counts {
+                first: self.first.wrapping_add(1),
+                ..self
+            },
+            GateAction::Reject => Counts {
+                refused: self.refused.wrapping_add(1),
+                ..self
+            },
         }
     }
 }

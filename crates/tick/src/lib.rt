@@ -1,8 +1,7 @@
-// Small parts of a tick: the eight counts, the outputs, and the numbers of the refusals.
+// Small parts of a tick: the eight counts and the outputs.
 #![tactic(auto)]
 
 pub mod count; // count.rt: how often each outcome came
-pub mod refusals; // refusals.rt: document 01's numbers
 
 use na::{Vector3f, Vector4f, ZEROS_3, ZEROS_4};
 
@@ -48,20 +47,3 @@ pub const NO_OUTPUTS: Outputs = Outputs {
     wheel_vel_out: ZEROS_4,
     wheel_torque_out: ZEROS_4,
 };
-
-// Document 01, 'When a call is turned away', in its order.
-#[derive(Clone, Copy)]
-pub enum Refusal {
-    // 1: k not 1..64
-    TickLength,
-    // 2: call out of turn
-    OutOfTurn,
-    // 3: sight after 16,777,216 ticks
-    TickLimit,
-    // 4: mode not 0..3
-    Mode,
-    // 11
-    EstimatorFailed,
-    // 12
-    PlannerFailed,
-}

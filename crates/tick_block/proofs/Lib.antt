@@ -1,2 +1,2 @@
--- Laws that belong to no one function, and cases that are computed. Assumes nothing.
+-- Laws that belong to no one function. Assumes nothing.
 pub mod Refusal

@@ -3,47 +3,42 @@ use Prim.Native.Nat.{ℕ}
 use mathlib.Core.Path.{◌≡◌, refl, ◌∙◌}
 use mathlib.Core.Bool.{Bool, true, false, cond}
 use mathlib.Core.List.{List}
-use Rattle.tick_length.specs.declared.TickLengthAnswer.TheVariants as Length
+use Rattle.std.specs.Prelude.{Result, Ok, Err}
+use Rattle.refusal.specs.declared.Refusal.{Refusal}
+use Rattle.refusal.specs.declared.Refusal.TheVariants as Why
+use Rattle.refusal.specs.Refusal.{refusal_number, number_of}
+use Rattle.tick_length.specs.declared.TickLength.{TickLength}
 use Rattle.tick_length.specs.TickLength.{is_tick_length, tick_length_of}
 use Rattle.cmd.specs.Command.{is_mode}
 use Rattle.block_words.specs.Word.{word_at}
 use Rattle.block_check.specs.Layout as at
 use Rattle.block_check.specs.Check.{spare_zero}
-use Rattle.block_tests.specs.declared.BlockRefusal.{BlockRefusal}
-use Rattle.block_tests.specs.declared.BlockRefusal.TheVariants as Why
-use Rattle.block_tests.specs.declared.Tested.{Tested}
-use Rattle.block_tests.specs.declared.Tested.TheVariants.{Passed, Refused}
-use Rattle.block_tests.specs.Tests.{is_whole, checks, is_version, tested_with, inputs_tested, format_tested, block_tested, refusal_number}
-use Rattle.tick_block.specs.Block.{answer_to, block_read, answer_number, block_refusal}
+use Rattle.block_tests.specs.Tests.{is_whole, checks, is_version, tested_with, inputs_tested, format_tested, block_tested}
+use Rattle.tick_block.specs.Block.{answer_to, block_read, block_refusal}
 
--- the number of what the tests show
-abbrev tested_number : Tested → ℕ
-tested_number (Passed t) = 0
-tested_number (Refused r) = refusal_number r
-
--- it is the answer's
-answered : (t : Tested) (s : List ℕ) → answer_number (answer_to t s) ≡ tested_number t
-answered (Passed t) s = refl
-answered (Refused r) s = refl
+-- the number of what the tests show is the answer's
+answered : (t : Result TickLength Refusal) (s : List ℕ) → number_of (answer_to t s) ≡ number_of t
+answered (Ok t) s = refl
+answered (Err r) s = refl
 
 -- one test more in front
-tested : (b : Bool) (x : Tested) (n : ℕ) (r : BlockRefusal) → tested_number x ≡ n → tested_number (cond b x (Refused r)) ≡ cond b n (refusal_number r)
+tested : (b : Bool) (x : Result TickLength Refusal) (n : ℕ) (r : Refusal) → number_of x ≡ n → number_of (cond b x (Err r)) ≡ cond b n (refusal_number r)
 tested true x n r h = h
 tested false x n r h = refl
 
 -- 1, then 4
-inputs_numbered : (s : List ℕ) → tested_number (inputs_tested s) ≡ cond (is_tick_length (word_at s at.tick_length)) (cond (is_mode (word_at s at.mode)) 0 4) 1
+inputs_numbered : (s : List ℕ) → number_of (inputs_tested s) ≡ cond (is_tick_length (word_at s at.tick_length)) (cond (is_mode (word_at s at.mode)) 0 4) 1
 unfolding inputs_tested tick_length_of
 inputs_numbered s = go (is_tick_length (word_at s at.tick_length))
   where
     go :
         (b : Bool)
-        → tested_number (tested_with (cond b (Length.Made (record { k = word_at s at.tick_length })) Length.Refused) s)
+        → number_of (tested_with (cond {A = Result TickLength Refusal} b (Ok (record { k = word_at s at.tick_length })) (Err Why.TickLength)) s)
         ≡ cond b (cond (is_mode (word_at s at.mode)) 0 4) 1
     go true = tested (is_mode (word_at s at.mode)) _ 0 Why.Mode refl
     go false = refl
 
-pub numbered : (s : List ℕ) → answer_number (block_read s) ≡ block_refusal s
+pub numbered : (s : List ℕ) → number_of (block_read s) ≡ block_refusal s
 unfolding block_read block_tested format_tested block_refusal
 numbered s =
     answered (block_tested s) s

@@ -1,19 +1,15 @@
 -- A tick block, document 01, 'Records', and why one is refused, 'When a call is turned away'. Assumes nothing.
-use Rattle.std.specs.Prelude.{ℕ, cond, List}
+use Rattle.std.specs.Prelude.{ℕ, cond, List, Result, Ok, Err}
 use Rattle.tick_length.specs.declared.TickLength.{TickLength}
 use Rattle.tick_length.specs.TickLength.{is_tick_length}
 use Rattle.cmd.specs.Command.{is_mode}
 use Rattle.block_words.specs.Word.{word_at}
 use Rattle.block_check.specs.Layout as at
 use Rattle.block_check.specs.Check.{spare_zero}
-use Rattle.block_tests.specs.declared.Tested.{Tested}
-use Rattle.block_tests.specs.declared.Tested.TheVariants.{Passed, Refused}
+use Rattle.refusal.specs.declared.Refusal.{Refusal}
 use Rattle.block_tests.specs.Tests.{is_whole, checks, is_version, block_tested}
-pub use Rattle.block_tests.specs.Tests.{refusal_number}
 use Rattle.sight_inputs.specs.Inputs.{sight_input, plan_input}
 use Rattle.steer_inputs.specs.Inputs.{steer_input, finish_input}
-use Rattle.tick_block.specs.declared.BlockAnswer.{BlockAnswer}
-use Rattle.tick_block.specs.declared.BlockAnswer.TheVariants as Answer
 use Rattle.tick_block.specs.declared.TickBlock.{TickBlock}
 
 -- ---- the answer
@@ -30,19 +26,14 @@ tick_block s t = record {
 }
 
 -- what it says where it passed, and else why it is refused
-abbrev pub answer_to : Tested → List ℕ → BlockAnswer
-answer_to (Passed t) s = Answer.Read (tick_block s t)
-answer_to (Refused why) s = Answer.Refused why
+abbrev pub answer_to : Result TickLength Refusal → List ℕ → Result TickBlock Refusal
+answer_to (Ok t) s = Ok (tick_block s t)
+answer_to (Err why) s = Err why
 
-unfoldable pub block_read : List ℕ → BlockAnswer
+unfoldable pub block_read : List ℕ → Result TickBlock Refusal
 block_read s = answer_to (block_tested s) s
 
 -- ---- document 01's numbers
-
--- an answer's number, and 0 for the one that is no refusal
-abbrev pub answer_number : BlockAnswer → ℕ
-answer_number (Answer.Read b) = 0
-answer_number (Answer.Refused r) = refusal_number r
 
 -- 'Blocks: 5, 6, 7, 8, 1, 4': the first that applies, 0 where none does
 unfoldable pub block_refusal : List ℕ → ℕ

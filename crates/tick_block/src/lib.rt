@@ -2,11 +2,13 @@
 #![tactic(auto)]
 
 ghost use Rattle.std.specs.Prelude.{◌≡◌};
-ghost use Rattle.tick_block.specs.Block.{tick_block, block_read, answer_number, block_refusal};
+ghost use Rattle.refusal.specs.Refusal.{number_of};
+ghost use Rattle.tick_block.specs.Block.{tick_block, block_read, block_refusal};
 
-use block_tests::{BlockRefusal, Tested, block_tested};
+use block_tests::block_tested;
 use block_words::word_at;
 use inputs::{FinishInput, PlanInput, SightInput, SteerInput};
+use refusal::Refusal;
 use sight_inputs::{plan_input, sight_input};
 use steer_inputs::{finish_input, steer_input};
 use tick_length::TickLength;
@@ -25,12 +27,6 @@ pub struct TickBlock {
     pub finish: FinishInput,
 }
 
-#[derive(Clone, Copy)]
-pub enum BlockAnswer {
-    Read(TickBlock),
-    Refused(BlockRefusal),
-}
-
 #[tactic(auto, unfolding(crate::specs::Block::tick_block))]
 fn tick_block(block: &[u8], tick: TickLength) -> TickBlock
     ensures { result ≡ tick_block block.now tick }
@@ -45,18 +41,19 @@ fn tick_block(block: &[u8], tick: TickLength) -> TickBlock
     }
 }
 
-// The answer: what the block says where it passes its tests.
-#[tactic(auto, using(crate::proofs::Refusal::numbered), unfolding(crate::specs::Block::block_read))]
-pub fn read(block: &[u8]) -> BlockAnswer
-    ensures { (result ≡ block_read block.now) × (answer_number result ≡ block_refusal block.now) × (block.now ≡ block.now) }
+// What the block says where it passes its tests.
+#[tactic(auto, unfolding(crate::specs::Block::block_read))]
+fn tested_block(block: &[u8]) -> Result<TickBlock, Refusal>
+    ensures { result ≡ block_read block.now }
 {
-    let tested = block_tested(block);
-    match tested {
-        Tested::Passed(tick) => {
-            return BlockAnswer::Read(tick_block(block, tick));
-        }
-        Tested::Refused(why) => {
-            return BlockAnswer::Refused(why);
-        }
-    }
+    let tick = block_tested(block)?;
+    Ok(tick_block(block, tick))
+}
+
+// A tick block, or the first refusal that applies.
+#[tactic(auto, using(crate::proofs::Refusal::numbered))]
+pub fn read(block: &[u8]) -> Result<TickBlock, Refusal>
+    ensures { (result ≡ block_read block.now) × (number_of result ≡ block_refusal block.now) }
+{
+    tested_block(block)
 }

@@ -1,12 +1,15 @@
 // A tick, a term of document 01: the calls sight, plan, steer and finish, and the tick's line.
 #![tactic(auto)]
 
-ghost use Rattle.std.specs.Prelude.{◌≡◌};
-ghost use Rattle.tick_calls.specs.Tick.{ending_of, ended_by, finished, steered, planned, refused_at, ticked};
+ghost use Rattle.std.specs.Prelude.{◌≡◌, IfOk, IfErr};
+ghost use Rattle.body_controller.specs.Controller.{refused};
+ghost use Rattle.tick_calls.specs.Tick.{ending_of, ended_by, steered, planned, refused_at, ticked};
 
-use body_controller::{BodyController, FinishAnswer, PlanCallAnswer, SightAnswer, SteerAnswer};
+use body_controller::{BodyController, Called};
+use call_answers::Finished;
 use inputs::{FinishInput, PlanInput, SightInput, SteerInput};
 use line_text::{Ending, Line, RefusedLine, TickLine};
+use refusal::Refusal;
 
 // A block's line, and the controller as the block leaves it.
 #[derive(Clone, Copy)]
@@ -16,115 +19,80 @@ pub struct Ticked {
 }
 
 // Four wheel speeds, or the refusal's number.
-fn ending_of(answer: FinishAnswer) -> Ending
+fn ending_of(answer: Result<Finished, Refusal>) -> Ending
     ensures { result ≡ ending_of answer }
 {
     match answer {
-        FinishAnswer::Accepted(f) => {
-            let outputs = f.outputs;
-            let wheels = outputs.wheel_vel_out;
-            return Ending::Wheels(wheels);
-        }
-        FinishAnswer::Refused(r) => {
-            return Ending::Failed(r.number());
-        }
+        Ok(f) => Ending::Wheels(f.outputs.wheel_vel_out),
+        Err(r) => Ending::Failed(r.number()),
     }
 }
 
-// The line of a tick that ended, with the marks at its end.
+// The line of a tick that ended with this call, with the marks at its end.
 #[tactic(auto, unfolding(crate::specs::Tick::ended_by))]
-fn end_tick(c: BodyController, number: u32, letter: u8, ending: Ending) -> Ticked
-    ensures { result ≡ ended_by c number letter ending }
+fn end_tick(last: Called<Finished>, number: u32, letter: u8) -> Ticked
+    ensures { result ≡ ended_by last number letter }
 {
-    let line = TickLine {
-        number,
-        letter,
-        active: c.vision_active(),
-        recovering: c.tracking_divergence_recovery_active(),
-        ending,
-    };
+    let controller = last.controller;
     Ticked {
-        line: Line::Tick(line),
-        controller: c,
+        line: Line::Tick(TickLine {
+            number,
+            letter,
+            active: controller.vision_active(),
+            recovering: controller.tracking_divergence_recovery_active(),
+            ending: ending_of(last.answer),
+        }),
+        controller,
     }
 }
 
-#[tactic(auto, unfolding(crate::specs::Tick::finished))]
-fn finish_tick(c: BodyController, number: u32, letter: u8, finish: FinishInput) -> Ticked
-    ensures { result ≡ finished c number letter finish }
+// The next call, where this one was accepted; a call that was turned away is the tick's last.
+#[tactic(auto, unfolding(body_controller::specs::Controller::refused))]
+fn then<A: Drop, B, F: FnOnce(BodyController) -> Called<B>>(called: Called<A>, next: F) -> Called<B>
+    requires { F.IsAlwaysCallable next }
+    ensures ok { IfOk called.answer (λ _. F.post next called.controller result) }
+    ensures err { IfErr called.answer (λ r. result ≡ refused r called.controller) }
 {
-    let result = c.finish(finish);
-    let answer = result.answer;
-    let ending = ending_of(answer);
-    end_tick(result.controller, number, letter, ending)
+    match called.answer {
+        Ok(_) => next(called.controller),
+        Err(refusal) => Called {
+            answer: Err(refusal),
+            controller: called.controller,
+        },
+    }
 }
 
+// The calls behind plan.
 #[tactic(auto, unfolding(crate::specs::Tick::steered))]
-fn steer_tick(
-    c: BodyController,
-    number: u32,
-    letter: u8,
-    steer: SteerInput,
-    finish: FinishInput,
-) -> Ticked
-    ensures { result ≡ steered c number letter steer finish }
+fn steer_on(c: BodyController, steer: SteerInput, finish: FinishInput) -> Called<Finished>
+    ensures { result ≡ steered c steer finish }
 {
-    let result = c.steer(steer);
-    let answer = result.answer;
-    match answer {
-        SteerAnswer::Accepted(_) => {
-            return finish_tick(result.controller, number, letter, finish);
-        }
-        SteerAnswer::Refused(r) => {
-            return end_tick(
-                result.controller,
-                number,
-                letter,
-                Ending::Failed(r.number()),
-            );
-        }
-    }
+    then(c.steer(steer), |c: BodyController| c.finish(finish))
 }
 
+// The calls behind sight.
 #[tactic(auto, unfolding(crate::specs::Tick::planned))]
-fn plan_tick(
+fn plan_on(
     c: BodyController,
-    number: u32,
-    letter: u8,
     plan: PlanInput,
     steer: SteerInput,
     finish: FinishInput,
-) -> Ticked
-    ensures { result ≡ planned c number letter plan steer finish }
+) -> Called<Finished>
+    ensures { result ≡ planned c plan steer finish }
 {
-    let result = c.plan(plan);
-    let answer = result.answer;
-    match answer {
-        PlanCallAnswer::Accepted(_) => {
-            return steer_tick(result.controller, number, letter, steer, finish);
-        }
-        PlanCallAnswer::Refused(r) => {
-            return end_tick(
-                result.controller,
-                number,
-                letter,
-                Ending::Failed(r.number()),
-            );
-        }
-    }
+    then(c.plan(plan), |c: BodyController| steer_on(c, steer, finish))
 }
 
 // A block that sight refused; the controller stays.
 #[tactic(auto, unfolding(crate::specs::Tick::refused_at))]
-fn refuse_tick(c: BodyController, refusal: u8) -> Ticked
+fn refuse_tick(c: BodyController, refusal: Refusal) -> Ticked
     ensures { result ≡ refused_at c refusal }
 {
-    let line = RefusedLine {
-        number: c.ticks(),
-        refusal,
-    };
     Ticked {
-        line: Line::Refused(line),
+        line: Line::Refused(RefusedLine {
+            number: c.ticks(),
+            refusal: refusal.number(),
+        }),
         controller: c,
     }
 }
@@ -141,16 +109,13 @@ pub fn drive_tick(
 ) -> Ticked
     ensures { result ≡ ticked c sight plan steer finish }
 {
-    let result = c.sight(sight);
-    let answer = result.answer;
-    match answer {
-        SightAnswer::Accepted(s) => {
-            let action = s.action;
-            let letter = action.letter();
-            return plan_tick(result.controller, c.ticks(), letter, plan, steer, finish);
-        }
-        SightAnswer::Refused(r) => {
-            return refuse_tick(c, r.number());
-        }
+    let sighted = c.sight(sight);
+    match sighted.answer {
+        Ok(s) => end_tick(
+            plan_on(sighted.controller, plan, steer, finish),
+            c.ticks(),
+            s.action.letter(),
+        ),
+        Err(refusal) => refuse_tick(c, refusal),
     }
 }

@@ -4,21 +4,23 @@ use mathlib.Core.Bool.{Bool, true, false, cond}
 use Prim.Native.Nat.{ℕ}
 use native.Mathlib.Omega.{arith}
 use Rattle.tick_length.specs.declared.TickLength.{TickLength}
-use Rattle.tick_length.specs.declared.TickLengthAnswer.TheVariants.{Made, Refused}
+use Rattle.std.specs.Prelude.{Result, Ok, Err}
+use Rattle.refusal.specs.declared.Refusal.{Refusal}
+use Rattle.refusal.specs.declared.Refusal.TheVariants as Why
 use Rattle.tick_length.specs.TickLength.{is_tick_length, tick_length_of}
 
-pub made_is : (k : ℕ) (t : TickLength) → tick_length_of k ≡ Made t → (is_tick_length t.k ≡ true) × (t.k ≡ k)
+pub made_is : (k : ℕ) (t : TickLength) → tick_length_of k ≡ Ok t → (is_tick_length t.k ≡ true) × (t.k ≡ k)
 unfolding tick_length_of
 made_is k t h = go (is_tick_length k) refl h
   where
-    go : (b : Bool) → is_tick_length k ≡ b → cond b (Made (record { k = k })) Refused ≡ Made t → (is_tick_length t.k ≡ true) × (t.k ≡ k)
+    go : (b : Bool) → is_tick_length k ≡ b → cond {A = Result TickLength Refusal} b (Ok (record { k = k })) (Err Why.TickLength) ≡ Ok t → (is_tick_length t.k ≡ true) × (t.k ≡ k)
     go true e g = let same : t.k ≡ k = cc in (ap is_tick_length same ∙ e, same)
     go false e g = let z : ◌≡◌ {A = ℕ} 0 1 = cc in absurd (omega arith)
 
-pub refused_is : (k : ℕ) → tick_length_of k ≡ Refused → is_tick_length k ≡ false
+pub refused_is : (k : ℕ) → tick_length_of k ≡ Err Why.TickLength → is_tick_length k ≡ false
 unfolding tick_length_of
 refused_is k h = go (is_tick_length k) refl h
   where
-    go : (b : Bool) → is_tick_length k ≡ b → cond b (Made (record { k = k })) Refused ≡ Refused → is_tick_length k ≡ false
+    go : (b : Bool) → is_tick_length k ≡ b → cond {A = Result TickLength Refusal} b (Ok (record { k = k })) (Err Why.TickLength) ≡ Err Why.TickLength → is_tick_length k ≡ false
     go true e g = cc
     go false e g = e

@@ -1,23 +1,24 @@
 -- Document 01's starred cases of the tick length, each by computation. Assumes nothing.
 use mathlib.Core.Path.{◌≡◌, refl}
-use Rattle.tick_length.specs.declared.TickLengthAnswer.TheVariants.{Made}
-use Rattle.tick_length.specs.TickLength.{tick_length_of, refusal_number, micros_of}
+use Rattle.std.specs.Prelude.{Ok}
+use Rattle.refusal.specs.Refusal.{number_of}
+use Rattle.tick_length.specs.TickLength.{tick_length_of, micros_of}
 
 -- k 0 and 65: 1
-pub zero_refused : refusal_number (tick_length_of 0) ≡ 1
+pub zero_refused : number_of (tick_length_of 0) ≡ 1
 unfolding tick_length_of
 zero_refused = refl
 
-pub sixty_five_refused : refusal_number (tick_length_of 65) ≡ 1
+pub sixty_five_refused : number_of (tick_length_of 65) ≡ 1
 unfolding tick_length_of
 sixty_five_refused = refl
 
 -- k 1 and 64 accepted
-pub one_made : tick_length_of 1 ≡ Made (record { k = 1 })
+pub one_made : tick_length_of 1 ≡ Ok (record { k = 1 })
 unfolding tick_length_of
 one_made = refl
 
-pub sixty_four_made : tick_length_of 64 ≡ Made (record { k = 64 })
+pub sixty_four_made : tick_length_of 64 ≡ Ok (record { k = 64 })
 unfolding tick_length_of
 sixty_four_made = refl
 

@@ -1,9 +1,10 @@
 -- The tick length, a term of document 01: dt = k/4096 s, with k from 1 to 64. Assumes nothing.
-use Rattle.std.specs.Prelude.{ℕ, ◌*◌, ◌/◌, Bool, false, cond, pos, ltb, Float}
+use Rattle.std.specs.Prelude.{ℕ, ◌*◌, ◌/◌, Bool, false, cond, pos, ltb, Float, Result, Ok, Err}
 use Rattle.std.specs.Float.{binary32}
 use Rattle.std.specs.Float.Ieee.{div, of_int, of_bits}
-use Rattle.tick_length.specs.declared.TickLengthAnswer.{TickLengthAnswer}
-use Rattle.tick_length.specs.declared.TickLengthAnswer.TheVariants.{Made, Refused}
+use Rattle.refusal.specs.declared.Refusal.{Refusal}
+use Rattle.refusal.specs.declared.Refusal.TheVariants as Why
+use Rattle.tick_length.specs.declared.TickLength.{TickLength}
 
 -- k is a tick length's: not below 1, and below 65
 abbrev pub is_tick_length : ℕ → Bool
@@ -13,14 +14,9 @@ is_tick_length k = cond (ltb k 1) false (ltb k 65)
 abbrev pub refusal_of : ℕ → ℕ
 refusal_of k = cond (is_tick_length k) 0 1
 
--- document 01's number for an answer, and 0 for the one that is no refusal
-abbrev pub refusal_number : TickLengthAnswer → ℕ
-refusal_number (Made t) = 0
-refusal_number Refused = 1
-
 -- the answer to a k
-unfoldable pub tick_length_of : ℕ → TickLengthAnswer
-tick_length_of k = cond (is_tick_length k) (Made (record { k = k })) Refused
+unfoldable pub tick_length_of : ℕ → Result TickLength Refusal
+tick_length_of k = cond (is_tick_length k) (Ok (record { k = k })) (Err Why.TickLength)
 
 -- k/4096 s as a float: k, divided by 4096.0
 unfoldable pub seconds_of : ℕ → Float

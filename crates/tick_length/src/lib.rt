@@ -2,29 +2,26 @@
 #![tactic(auto)]
 
 ghost use Rattle.std.specs.Prelude.{◌≡◌};
-ghost use Rattle.tick_length.specs.TickLength.{tick_length_of, refusal_of, refusal_number, seconds_of, micros_of};
+ghost use Rattle.refusal.specs.Refusal.{number_of};
+ghost use Rattle.tick_length.specs.TickLength.{tick_length_of, refusal_of, seconds_of, micros_of};
+
+use refusal::Refusal;
 
 // k is a u8, so that the methods lose nothing at any k and ask for no bound.
-#[derive(Clone, Copy)]
+#[derive(Clone, Copy, Debug, PartialEq, Eq)]
 pub struct TickLength {
     pub k: u8,
 }
 
-// A tick length, or document 01's refusal 1: k is not from 1 to 64.
-#[derive(Clone, Copy)]
-pub enum TickLengthAnswer {
-    Made(TickLength),
-    Refused,
-}
-
 impl TickLength {
+    // Refusal 1 where k is not from 1 to 64.
     #[tactic(auto, unfolding(crate::specs::TickLength::tick_length_of))]
-    pub fn new(k: u32) -> TickLengthAnswer
-        ensures { (result ≡ tick_length_of k) × (refusal_number result ≡ refusal_of k) }
+    pub fn new(k: u32) -> Result<TickLength, Refusal>
+        ensures { (result ≡ tick_length_of k) × (number_of result ≡ refusal_of k) }
     {
         match k {
-            1..=64 => TickLengthAnswer::Made(TickLength { k: k as u8 }),
-            _ => TickLengthAnswer::Refused,
+            1..=64 => Ok(TickLength { k: k as u8 }),
+            _ => Err(Refusal::TickLength),
         }
     }
 

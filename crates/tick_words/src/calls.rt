@@ -1,39 +1,60 @@
-// A tick's four calls, with the words of their answers, up to the first call that is turned away, whose
-// refusal is word 2.
+// A tick's four calls, with the words of their answers, which are zeros before, up to the first call
+// that is turned away, whose refusal is word 2.
 use crate::answers::{put_finish, put_plan, put_sight, put_steer};
-use body_controller::BodyController;
+use crate::block::refuse;
+use body_controller::{BodyController, Called};
 use sight_inputs::{plan_input, sight_input};
 use steer_inputs::{finish_input, steer_input};
 
 pub(crate) fn sight(c: BodyController, block: &[u8], words: &mut [u32; 96]) -> BodyController {
-    let result = c.sight(sight_input(block));
-    let answer = result.answer;
-    if put_sight(words, answer) {
-        return plan(result.controller, block, words);
+    let Called { answer, controller } = c.sight(sight_input(block));
+    match answer {
+        Ok(sighted) => {
+            put_sight(words, sighted);
+            plan(controller, block, words)
+        }
+        Err(refusal) => {
+            refuse(words, refusal);
+            controller
+        }
     }
-    result.controller
 }
 
+// Word 18 of a plan that was turned away is 4, behind plan's four answers.
 fn plan(c: BodyController, block: &[u8], words: &mut [u32; 96]) -> BodyController {
-    let result = c.plan(plan_input(block));
-    let answer = result.answer;
-    if put_plan(words, answer) {
-        return steer(result.controller, block, words);
+    let Called { answer, controller } = c.plan(plan_input(block));
+    match answer {
+        Ok(planned) => {
+            put_plan(words, planned);
+            steer(controller, block, words)
+        }
+        Err(refusal) => {
+            words[2] = refusal as u32;
+            words[18] = 4;
+            controller
+        }
     }
-    result.controller
 }
 
-// Finish is out of turn where steer is turned away, and changes nothing.
 fn steer(c: BodyController, block: &[u8], words: &mut [u32; 96]) -> BodyController {
-    let result = c.steer(steer_input(block));
-    let answer = result.answer;
-    put_steer(words, answer);
-    finish(result.controller, block, words)
+    let Called { answer, controller } = c.steer(steer_input(block));
+    match answer {
+        Ok(twist) => {
+            put_steer(words, twist);
+            finish(controller, block, words)
+        }
+        Err(refusal) => {
+            words[2] = refusal as u32;
+            controller
+        }
+    }
 }
 
+// Finish is turned away behind another call alone, and is not made there.
 fn finish(c: BodyController, block: &[u8], words: &mut [u32; 96]) -> BodyController {
-    let result = c.finish(finish_input(block));
-    let answer = result.answer;
-    put_finish(words, answer);
-    result.controller
+    let Called { answer, controller } = c.finish(finish_input(block));
+    if let Ok(finished) = answer {
+        put_finish(words, finished);
+    }
+    controller
 }

@@ -9,24 +9,18 @@ mod calls; // calls.rt: the four calls
 mod put; // put.rt: vectors and marks among the 96 words
 mod state; // state.rt: the words of what the controller keeps
 
-ghost use Rattle.std.specs.Prelude.{◌≤◌, ◌≡◌, length};
-
 use block::{REFUSED, run_block};
-use body_controller::{BodyController, NewAnswer};
+use body_controller::BodyController;
 use full_read::read_full;
 use std::io;
 
 // As many blocks as 256 passes can drive.
 const TURNS: u64 = 4_294_967_296;
 
-fn put_bytes(out: &mut [u8], words: &[u32; 96])
-    requires { 384 ≤ length out.old }
-    ensures { length out.new ≡ length out.old }
-{
-    let mut i: usize = 0;
-    while i < 384 {
-        out[i] = ((words[i / 4] >> (i % 4 * 8)) % 256) as u8;
-        i = i + 1;
+// The words as bytes, lowest byte first.
+fn put_bytes(out: &mut [u8; 384], words: &[u32; 96]) {
+    for (bytes, word) in out.chunks_exact_mut(4).zip(words) {
+        bytes.copy_from_slice(&word.to_le_bytes());
     }
 }
 
@@ -44,23 +38,21 @@ fn write(rt: &HostRuntime, words: &[u32; 96], n: usize) -> io::Result<bool> {
 // Reads and runs block after block; c stands for no pass until a block begins one.
 fn run(rt: &HostRuntime, mut c: BodyController) -> io::Result<()> {
     let mut driving = false;
-    let mut turns = TURNS;
-    while turns > 0 {
+    for _ in 0..TURNS {
         let mut block = [0; 512];
         let mut words = [0; 96];
         let n = read_full(&mut rt.stdin(), &mut block)?;
         c = run_block(c, driving, &block[..n], &mut words);
         driving = words[1] != REFUSED;
         if !write(rt, &words, n)? {
-            return Ok(());
+            break;
         }
-        turns = turns - 1;
     }
     Ok(())
 }
 
 fn main(rt: HostRuntime) -> io::Result<()> {
-    if let NewAnswer::Made(c) = BodyController::new(1) {
+    if let Ok(c) = BodyController::new(1) {
         run(&rt, c)?;
     }
     Ok(())

@@ -7,10 +7,8 @@ use na::Vector3f;
 pub(crate) fn put(words: &mut [u32; 96], at: usize, floats: &[f32])
     requires { at + length floats.now ≤ 96 }
 {
-    let mut i: usize = 0;
-    while i < floats.len() {
-        words[at + i] = to_bits(floats[i]);
-        i = i + 1;
+    for (word, float) in words[at..].iter_mut().zip(floats) {
+        *word = to_bits(*float);
     }
 }
 

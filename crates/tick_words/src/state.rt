@@ -6,13 +6,12 @@ use cmd::{GlobalPosition, HeadingLine, ManeuverCommand};
 use context::ControlContext;
 use float_bits::to_bits;
 use gate::VisionGateState;
-use memory::{HeldSample, Memory, PrevCommand};
+use memory::Memory;
 use vision::Vision;
 
 fn put_vision(words: &mut [u32; 96], vision: Vision) {
     words[55] = to_bits(vision.time_since_vision_update_s);
-    let gate = vision.gate;
-    match gate {
+    match vision.gate {
         VisionGateState::Seeding(s) => {
             words[49] = s.n;
             put(
@@ -29,27 +28,10 @@ fn put_vision(words: &mut [u32; 96], vision: Vision) {
 }
 
 fn put_held(words: &mut [u32; 96], memory: Memory) {
-    let held = memory.held;
-    match held {
-        HeldSample::Absent => {}
-        HeldSample::Held(sample) => {
-            words[58] = 1;
-            put(
-                words,
-                59,
-                &[
-                    sample.state.pose.x,
-                    sample.state.pose.y,
-                    sample.state.pose.z,
-                    sample.state.twist.x,
-                    sample.state.twist.y,
-                    sample.state.twist.z,
-                    sample.accel.x,
-                    sample.accel.y,
-                    sample.accel.z,
-                ],
-            );
-        }
+    if let Some(sample) = memory.held {
+        words[58] = 1;
+        put_two(words, 59, sample.state.pose, sample.state.twist);
+        put(words, 65, &[sample.accel.x, sample.accel.y, sample.accel.z]);
     }
 }
 
@@ -95,16 +77,11 @@ fn put_line(words: &mut [u32; 96], l: HeadingLine) {
 
 // Off and brake are never a previous command: their modes hold.
 fn put_previous(words: &mut [u32; 96], memory: Memory) {
-    let prev = memory.prev_cmd;
-    match prev {
-        PrevCommand::Absent => {}
-        PrevCommand::Was(cmd) => match cmd {
-            ManeuverCommand::GlobalPosition(p) => put_position(words, p),
-            ManeuverCommand::HeadingLine(l) => put_line(words, l),
-            _ => {
-                words[68] = 0xffff_ffff;
-            }
-        },
+    match memory.prev_cmd {
+        None => {}
+        Some(ManeuverCommand::GlobalPosition(p)) => put_position(words, p),
+        Some(ManeuverCommand::HeadingLine(l)) => put_line(words, l),
+        Some(_) => words[68] = 0xffff_ffff,
     }
 }
 
@@ -125,17 +102,11 @@ fn put_context(words: &mut [u32; 96], k: ControlContext) {
 // A tick that was finished has put its outputs and the wheels' mark.
 pub(crate) fn put_state(words: &mut [u32; 96], c: BodyController) {
     let context = c.context();
-    if c.vision_active() {
-        words[56] = 1;
-    }
-    if c.tracking_divergence_recovery_active() {
-        words[57] = 1;
-    }
+    words[56] = c.vision_active() as u32;
+    words[57] = c.tracking_divergence_recovery_active() as u32;
     put_context(words, context);
     if words[2] != 0 {
         put_outputs(words, c.outputs());
-        if context.wheels_disabled {
-            words[47] = 1;
-        }
+        words[47] = context.wheels_disabled as u32;
     }
 }

@@ -1,4 +1,3 @@
 -- Laws that belong to no one function, and a case that is computed. Assumes nothing.
-pub mod Four
 pub mod Bound
 pub mod Cases

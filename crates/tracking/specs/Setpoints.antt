@@ -1,6 +1,6 @@
 -- The setpoints, document 01, 'Steer': `calc_tracking_setpoints` in the modes that the constants choose, feedback alone for the acceleration and
 -- feedforward alone for the twist. Assumes nothing.
-use Rattle.std.specs.Prelude.{Float}
+use Rattle.std.specs.Prelude.{None, Some, Float}
 use Rattle.std.specs.Float.{binary32}
 use Rattle.std.specs.Float.Ieee.{add, sub}
 use Rattle.float_remainder.specs.Remainder.{remainder_by, tau}
@@ -9,8 +9,6 @@ use Rattle.na.specs.declared.Vector6f.{Vector6f}
 use Rattle.na.specs.Vector.{zeros3, sum_of, difference_of, scaled}
 use Rattle.params.specs.declared.PidGains.{PidGains}
 use Rattle.params.specs.Params.{linear_pose_pid_gains, angular_pose_pid_gains, pose_pid_anti_jitter_thresh, pose_accel_feedback_gain, pose_vel_feedforward_gain}
-use Rattle.pid.specs.declared.AntiJitterThresh.TheVariants.{Below}
-use Rattle.pid.specs.declared.OutputLimits.TheVariants.{Absent}
 use Rattle.pid.specs.declared.PidController.{PidController}
 use Rattle.pid.specs.Axis.{calculated_with_derivative}
 use Rattle.setpoints.specs.declared.PidMemory.{PidMemory}
@@ -20,7 +18,7 @@ use Rattle.tracking.specs.declared.TrackingAnswer.{TrackingAnswer}
 
 -- an axis with these gains and this threshold, no limits, and what it remembers
 unfoldable pub pose_axis : PidGains → Float → Float → Float → PidController
-pose_axis gain thresh error sum = record { gain = gain; anti_jitter_thresh = Below thresh; output_limits = Absent; prev_error = error; integrated_error = sum }
+pose_axis gain thresh error sum = record { gain = gain; anti_jitter_thresh = Some thresh; output_limits = None; prev_error = error; integrated_error = sum }
 
 -- what one axis answers, and what it remembers
 unfoldable pub axis_answered : PidController → Float → Float → Float → Float → AxisAnswer

@@ -11,7 +11,7 @@ use params::{
     ANGULAR_POSE_PID_GAINS, LINEAR_POSE_PID_GAINS, POSE_ACCEL_FEEDBACK_GAIN,
     POSE_PID_ANTI_JITTER_THRESH, POSE_VEL_FEEDFORWARD_GAIN, PidGains,
 };
-use pid::{AntiJitterThresh, OutputLimits, PidController};
+use pid::PidController;
 use setpoints::{ManeuverSetpoints, PidMemory};
 use vectors::{add, scale, sub};
 
@@ -53,22 +53,21 @@ fn pose_axis(
 {
     let controller = PidController {
         gain,
-        anti_jitter_thresh: AntiJitterThresh::Below(thresh),
-        output_limits: OutputLimits::Absent,
+        anti_jitter_thresh: Some(thresh),
+        output_limits: None,
         prev_error: 0.0,
         integrated_error,
     };
     let answer = controller.calculate_with_derivative(setpoint, process_variable, derivative, dt_s);
-    let after = answer.controller;
     AxisAnswer {
         output: answer.output,
-        prev_error: after.prev_error,
-        integrated_error: after.integrated_error,
+        prev_error: answer.controller.prev_error,
+        integrated_error: answer.controller.integrated_error,
     }
 }
 
 // `pose_pid_controller` of a context: x and y alike, and the heading. s is the setpoint, v the
-// process variable, d the derivative.
+// process variable, d the derivative. Entries by name: a sample's vectors are structs of floats.
 #[tactic(auto, unfolding(crate::specs::Setpoints::pose_answered, crate::specs::Setpoints::axis_answered, crate::specs::Setpoints::pose_axis, pid::specs::Axis::calculated_with_derivative, pid::specs::Axis::response, pid::specs::Axis::integrated))]
 fn pose_pid(pid: PidMemory, s: Vector3f, v: Vector3f, d: Vector3f, dt_s: f32) -> PoseAnswer
     ensures { result ≡ pose_answered pid s v d dt_s }
@@ -145,10 +144,11 @@ pub fn calc_tracking_setpoints(
     let traj_pos = wrapped(traj_state.pose, pose_estimate);
     let twist_error = sub(traj_vel, state_estimate.twist);
     let answer = pose_pid(pid, traj_pos, pose_estimate, twist_error, dt);
-    let pid = answer.pid;
-    let setpoints = ManeuverSetpoints {
-        body_twist: twist_setpoint(traj_vel),
-        body_accel: accel_setpoint(answer.output),
-    };
-    TrackingAnswer { setpoints, pid }
+    TrackingAnswer {
+        setpoints: ManeuverSetpoints {
+            body_twist: twist_setpoint(traj_vel),
+            body_accel: accel_setpoint(answer.output),
+        },
+        pid: answer.pid,
+    }
 }

@@ -24,16 +24,14 @@ pub fn line(tally: Tally, out: &mut [u8; 80]) -> usize
 }
 
 // Puts a text at place `at` of out, and answers the place behind it.
+#[tactic(auto, using(std::proofs::lemmas::Slice::overwrites))]
 fn put(out: &mut [u8], at: usize, text: &[u8]) -> usize
     requires { at + length text.now ≤ length out.old }
     ensures { Puts out.old at text.now out.new result }
 {
-    let mut i = 0;
-    while i < text.len() {
-        out[at + i] = text[i];
-        i += 1;
-    }
-    at + i
+    let next = at + text.len();
+    out[at..next].copy_from_slice(text);
+    next
 }
 
 // A number in decimal.

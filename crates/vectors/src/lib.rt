@@ -2,9 +2,9 @@
 #![tactic(auto)]
 
 ghost use Rattle.std.specs.Prelude.{◌≡◌};
-ghost use Rattle.na.specs.Vector.{entries3, entries4, sum_of, difference_of, scaled, dot_of};
+ghost use Rattle.na.specs.Vector.{sum_of, difference_of, scaled, dot_of};
 
-use na::{Vector3f, Vector4f};
+use na::Vector3f;
 
 #[tactic(auto, unfolding(na::specs::Vector::sum_of))]
 pub fn add(v: Vector3f, o: Vector3f) -> Vector3f
@@ -40,18 +40,13 @@ pub fn scale(v: Vector3f, k: f32) -> Vector3f
     }
 }
 
-// The products of the entries, summed from the left.
-#[tactic(auto, unfolding(na::specs::Vector::dot_of, na::specs::Vector::add_products))]
-pub fn dot3(v: Vector3f, o: Vector3f) -> f32
-    ensures { result ≡ dot_of (entries3 v) (entries3 o) }
+// The products of the entries, summed from the left, the first product first.
+pub fn dot<const N: usize>(v: [f32; N], o: [f32; N]) -> f32
+    ensures { result ≡ dot_of v.entry o.entry }
 {
-    v.x * o.x + v.y * o.y + v.z * o.z
-}
-
-// The same of four.
-#[tactic(auto, unfolding(na::specs::Vector::dot_of, na::specs::Vector::add_products))]
-pub fn dot4(v: Vector4f, o: Vector4f) -> f32
-    ensures { result ≡ dot_of (entries4 v) (entries4 o) }
-{
-    v.x * o.x + v.y * o.y + v.z * o.z + v.w * o.w
+    v.iter()
+        .zip(o.iter())
+        .map(|(x, y)| x * y)
+        .reduce(|sum, product| sum + product)
+        .unwrap_or(0.0)
 }

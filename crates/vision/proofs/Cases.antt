@@ -1,9 +1,10 @@
 -- Document 01's starred cases of the active mark, from the law of the clock, and closed cases of the gate by computation. Assumes nothing.
 use mathlib.Core.Path.{◌≡◌, refl}
 use Prim.Native.Nat.{ℕ, zero, suc}
-use mathlib.Core.Bool.{Bool, true, false}
+use mathlib.Core.Bool.{true, false}
 use lib.Dec.{lit≤}
 use lib.Ieee.{Float, binary32, add, sub, mul, div, lt, le, eq, is_nan, of_int, to_bits, of_bits}
+use Rattle.std.specs.Prelude.{Option, None, Some, option_map}
 use Rattle.float_hypot.specs.Hypot.{hypotenuse, hypot_of, outweighs, larger, smaller, root_of_squares, scaled_root}
 use Rattle.float_bits.specs.Magnitude.{magnitude}
 use Rattle.float_root.specs.Root.{square_root, root_of, whole_root, root_digits, sticky}
@@ -41,17 +42,17 @@ sixty_four_32 = (since_taken_lem 64 32 (lit≤ tt)).mark
 pub sixty_four_33 : active (clock_since zero_float (seconds_of 64) 33) ≡ false
 sixty_four_33 = (since_taken_lem 64 33 (lit≤ tt)).mark
 
--- ---- ticks of k 4 at the predicted place (0.0, 0.0), with a sighting at (x, 0.0)
+-- ---- ticks of k 4 at the predicted place (0.0, 0.0), with a sighting at (x, 0.0), if with one
 
-unfoldable pub tick : VisionGateState → Bool → Float → Judgement
+unfoldable pub tick : VisionGateState → Option Float → Judgement
 unfolding judged sighting_judged seeding_judged gathered fresh_seeding zeros2 zeros3 zeros6 steady deviation quiet tracking_judged distance radius hypotenuse hypot_of outweighs larger smaller root_of_squares scaled_root magnitude square_root root_of whole_root root_digits sticky seconds_of add sub mul div lt le eq is_nan of_int to_bits of_bits
-tick gate seen x = judged gate seen (record { x = x; y = zero_float; z = zero_float }) zeros6 (seconds_of 4)
+tick gate x = judged gate (option_map (λ (x : Float). record { x = x; y = zero_float; z = zero_float }) x) zeros6 (seconds_of 4)
 
 -- a new gate that sees one place again and again: the judgement after m others
 unfoldable pub again : Float → ℕ → Judgement
 unfolding tick
-again x zero = tick (Seeding fresh_seeding) true x
-again x (suc m) = tick (again x m).gate true x
+again x zero = tick (Seeding fresh_seeding) (Some x)
+again x (suc m) = tick (again x m).gate (Some x)
 
 -- at x = 1.0 the 19th is gathered and the 20th completes the seeding
 pub nineteenth : (again (of_bits binary32 0x3f80_0000) 18).action ≡ Accumulate
@@ -68,21 +69,21 @@ unfolding again
 below_zero = refl
 
 -- 5.0 m off, right after a taken sighting: a first refusal
-pub right_after : (tick (Tracking zero_float) true (of_bits binary32 0x40a0_0000)).action ≡ FirstReject
+pub right_after : (tick (Tracking zero_float) (Some (of_bits binary32 0x40a0_0000))).action ≡ FirstReject
 unfolding tick
 right_after = refl
 
 -- a quiet tick later it is none
-pub quiet_later : (tick (tick (Tracking zero_float) false zero_float).gate true (of_bits binary32 0x40a0_0000)).action ≡ Reject
+pub quiet_later : (tick (tick (Tracking zero_float) None).gate (Some (of_bits binary32 0x40a0_0000))).action ≡ Reject
 unfolding tick
 quiet_later = refl
 
 -- at the base itself, with the radius beyond it: a jump
-pub base_jumps : (tick (tick (Tracking zero_float) false zero_float).gate true vision_gate_base_radius_m).action ≡ AcceptJump
+pub base_jumps : (tick (tick (Tracking zero_float) None).gate (Some vision_gate_base_radius_m)).action ≡ AcceptJump
 unfolding tick
 base_jumps = refl
 
 -- at the radius itself: refused
-pub radius_refused : (tick (Tracking zero_float) true vision_gate_base_radius_m).action ≡ FirstReject
+pub radius_refused : (tick (Tracking zero_float) (Some vision_gate_base_radius_m)).action ≡ FirstReject
 unfolding tick
 radius_refused = refl

@@ -7,6 +7,7 @@ use mathlib.Core.Bool.{Bool, true, false}
 use lib.Dec.{T, leb}
 use lib.IntN.{pos}
 use lib.Ieee.{binary32, le, of_int}
+use Rattle.std.specs.Prelude.{Option, Some}
 use Rattle.params.specs.Params.{vision_clock_start_s}
 use Rattle.na.specs.declared.Vector3f.{Vector3f}
 use Rattle.na.specs.declared.Vector6f.{Vector6f}
@@ -31,23 +32,23 @@ pub record Held (k m : ℕ) (v : Vision) : Type 0 where
 abbrev pub Unheld : Vision → Type 0
 Unheld v = v.time_since_vision_update_s ≡ vision_clock_start_s
 
-module _ (v : Vision) (seen : Bool) (sighting : Vector3f) (predicted : Vector6f) (k : ℕ) where
+module _ (v : Vision) (sighting : Option Vector3f) (predicted : Vector6f) (k : ℕ) where
   -- whether a tick takes the sighting, and the vision after it
   abbrev taking : Bool
-  taking = takes (vision_after v seen sighting predicted (seconds_of k)).action
+  taking = takes (vision_after v sighting predicted (seconds_of k)).action
 
   abbrev next : Vision
-  next = (vision_after v seen sighting predicted (seconds_of k)).vision
+  next = (vision_after v sighting predicted (seconds_of k)).vision
 
   -- a tick that takes a sighting
   pub taken_held : taking ≡ true → Held k 0 next
   unfolding vision_after clock_after since_taken clock_since
-  taken_held e = record { tracking = taken_restarts v.gate seen sighting predicted (seconds_of k) e; clock = rw e }
+  taken_held e = record { tracking = taken_restarts v.gate sighting predicted (seconds_of k) e; clock = rw e }
 
   -- a tick that takes none
   pub held_waits : (m : ℕ) → Held k m v → taking ≡ false → Held k (suc m) next
   unfolding vision_after since_taken clock_since
-  held_waits m h e = record { tracking = rw h.tracking (refused_waits (since_taken (seconds_of k) m) seen sighting predicted (seconds_of k) (rw h.tracking at e)); clock = rw (e, h.clock) }
+  held_waits m h e = record { tracking = rw h.tracking (refused_waits (since_taken (seconds_of k) m) sighting predicted (seconds_of k) (rw h.tracking at e)); clock = rw (e, h.clock) }
 
   pub unheld_waits : Unheld v → taking ≡ false → Unheld next
   unfolding vision_after clock_since
@@ -63,6 +64,6 @@ unheld_inactive v h = ap active h ∙ since_reset zero_float 0
 
 -- a sighting within D metres of the predicted place is taken once m * k ≥ 2048 * D
 pub held_widens : (k m D : ℕ) (v : Vision) → k ≤ 64 → 1 ≤ D → D ≤ 64 → 2048 * D ≤ m * k → Held k m v → (sighting : Vector3f) (predicted : Vector6f) → T (le (distance sighting predicted) (of_int binary32 (pos D)))
-    → takes (vision_after v true sighting predicted (seconds_of k)).action ≡ true
+    → takes (vision_after v (Some sighting) predicted (seconds_of k)).action ≡ true
 unfolding vision_after
 held_widens k m D v K l g r h sighting predicted near = rw h.tracking (widening_takes k m D K l g r sighting predicted near)

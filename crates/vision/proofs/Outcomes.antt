@@ -9,6 +9,7 @@ use mathlib.Core.Bool.{Bool, true, false, cond, ◌&&◌, true≢false}
 use borrow.Author.Tests.{ltb-true, le-ltb}
 use lib.Dec.{lit<, ltb}
 use lib.Ieee.{Float, nan, binary32, add, lt, le, eq}
+use Rattle.std.specs.Prelude.{Option, None, Some}
 use Rattle.params.specs.Params.{vision_seed_samples, vision_seed_pos_std_thresh_m, vision_gate_base_radius_m}
 use Rattle.na.specs.declared.Vector3f.{Vector3f}
 use Rattle.na.specs.declared.Vector6f.{Vector6f}
@@ -101,18 +102,18 @@ clash : {A : Type 0} → true ≡ false → A
 clash e = absurd (true≢false e)
 
 -- a taken sighting leaves any gate tracking at 0.0
-pub taken_restarts : (g : VisionGateState) (seen : Bool) (v : Vector3f) (p : Vector6f) (dt : Float) → takes (judged g seen v p dt).action ≡ true → (judged g seen v p dt).gate ≡ Gate.Tracking zero_float
+pub taken_restarts : (g : VisionGateState) (sighting : Option Vector3f) (p : Vector6f) (dt : Float) → takes (judged g sighting p dt).action ≡ true → (judged g sighting p dt).gate ≡ Gate.Tracking zero_float
 unfolding judged sighting_judged
-taken_restarts g false v p dt e = clash (sym e)
-taken_restarts (Gate.Seeding s) true v p dt e =
+taken_restarts g None p dt e = clash (sym e)
+taken_restarts (Gate.Seeding s) (Some v) p dt e =
     elim (seeding_either (gathered s v)) [ inl w ↦ clash (sym e ∙ ap (λ (j : Judgement). takes j.action) w.1) | inr (inl w) ↦ ap (λ (j : Judgement). j.gate) w | inr (inr w) ↦ clash (sym e ∙ ap (λ (j : Judgement). takes j.action) w) ]
-taken_restarts (Gate.Tracking t) true v p dt e = elim (tracking_either t (distance v p) dt) [ inl w ↦ w.1 | inr w ↦ clash (sym e ∙ w.0) ]
+taken_restarts (Gate.Tracking t) (Some v) p dt e = elim (tracking_either t (distance v p) dt) [ inl w ↦ w.1 | inr w ↦ clash (sym e ∙ w.0) ]
 
 -- a tracking gate that takes nothing adds dt to its t, with a sighting or without
-pub refused_waits : (t : Float) (seen : Bool) (v : Vector3f) (p : Vector6f) (dt : Float) → takes (judged (Gate.Tracking t) seen v p dt).action ≡ false → (judged (Gate.Tracking t) seen v p dt).gate ≡ Gate.Tracking (add binary32 t dt)
+pub refused_waits : (t : Float) (sighting : Option Vector3f) (p : Vector6f) (dt : Float) → takes (judged (Gate.Tracking t) sighting p dt).action ≡ false → (judged (Gate.Tracking t) sighting p dt).gate ≡ Gate.Tracking (add binary32 t dt)
 unfolding judged sighting_judged quiet
-refused_waits t false v p dt e = refl
-refused_waits t true v p dt e = elim (tracking_either t (distance v p) dt) [ inl w ↦ clash (sym w.0 ∙ e) | inr w ↦ w.1 ]
+refused_waits t None p dt e = refl
+refused_waits t (Some v) p dt e = elim (tracking_either t (distance v p) dt) [ inl w ↦ clash (sym w.0 ∙ e) | inr w ↦ w.1 ]
 
 -- a gate that seeds
 abbrev pub Seeds : VisionGateState → Type 0
@@ -120,11 +121,11 @@ Seeds (Gate.Seeding s) = Unit {0}
 Seeds (Gate.Tracking t) = ⊥
 
 -- seeds on where nothing is taken: only C starts tracking
-pub refused_seeds : (g : VisionGateState) (seen : Bool) (v : Vector3f) (p : Vector6f) (dt : Float) → Seeds g → takes (judged g seen v p dt).action ≡ false → Seeds (judged g seen v p dt).gate
+pub refused_seeds : (g : VisionGateState) (sighting : Option Vector3f) (p : Vector6f) (dt : Float) → Seeds g → takes (judged g sighting p dt).action ≡ false → Seeds (judged g sighting p dt).gate
 unfolding judged sighting_judged quiet
-refused_seeds (Gate.Tracking t) seen v p dt h e = absurd h
-refused_seeds (Gate.Seeding s) false v p dt h e = tt
-refused_seeds (Gate.Seeding s) true v p dt h e =
+refused_seeds (Gate.Tracking t) sighting p dt h e = absurd h
+refused_seeds (Gate.Seeding s) None p dt h e = tt
+refused_seeds (Gate.Seeding s) (Some v) p dt h e =
     elim (seeding_either (gathered s v)) [ inl w ↦ rw w.1 tt | inr (inl w) ↦ clash (sym (ap (λ (j : Judgement). takes j.action) w) ∙ e) | inr (inr w) ↦ rw w tt ]
 
 -- ---- n never wraps
@@ -139,12 +140,12 @@ unfolding fresh_seeding
 fresh_small = lit< tt
 
 -- every tick keeps it
-pub stays_small : (g : VisionGateState) (seen : Bool) (v : Vector3f) (p : Vector6f) (dt : Float) → Small g → Small (judged g seen v p dt).gate
+pub stays_small : (g : VisionGateState) (sighting : Option Vector3f) (p : Vector6f) (dt : Float) → Small g → Small (judged g sighting p dt).gate
 unfolding judged sighting_judged quiet
-stays_small (Gate.Seeding s) false v p dt h = h
-stays_small (Gate.Tracking t) false v p dt h = tt
-stays_small (Gate.Seeding s) true v p dt h = elim (seeding_either (gathered s v)) [ inl w ↦ rw w.1 w.0 | inr (inl w) ↦ rw w tt | inr (inr w) ↦ rw w fresh_small ]
-stays_small (Gate.Tracking t) true v p dt h = elim (tracking_either t (distance v p) dt) [ inl w ↦ rw w.1 tt | inr w ↦ rw w.1 tt ]
+stays_small (Gate.Seeding s) None p dt h = h
+stays_small (Gate.Tracking t) None p dt h = tt
+stays_small (Gate.Seeding s) (Some v) p dt h = elim (seeding_either (gathered s v)) [ inl w ↦ rw w.1 w.0 | inr (inl w) ↦ rw w tt | inr (inr w) ↦ rw w fresh_small ]
+stays_small (Gate.Tracking t) (Some v) p dt h = elim (tracking_either t (distance v p) dt) [ inl w ↦ rw w.1 tt | inr w ↦ rw w.1 tt ]
 
 -- so n grows by one
 pub small_grows : (s : Seeding) (v : Vector3f) → Small (Gate.Seeding s) → (gathered s v).n ≡ s.n + 1

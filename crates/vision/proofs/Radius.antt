@@ -18,6 +18,7 @@ use Rattle.na.specs.declared.Vector6f.{Vector6f}
 use Rattle.gate.specs.declared.VisionGateState.TheVariants.{Tracking}
 use Rattle.gate_action.specs.declared.GateAction.TheVariants.{FirstReject, Reject}
 use Rattle.gate_action.specs.Outcome.{takes}
+use Rattle.std.specs.Prelude.{Some}
 use Rattle.gate.specs.Gate.{distance, radius, tracking_judged, sighting_judged, judged}
 use Rattle.vision.specs.Since.{since_taken}
 use Rattle.vision.proofs.Least.{AtLeast, add_least, double_least, below_least, least_not_zero}
@@ -47,7 +48,7 @@ widens k m D K l h r d small =
 
 -- so a tracking gate takes the sighting
 pub widening_takes : (k m D : ℕ) → k ≤ 64 → 1 ≤ D → D ≤ 64 → 2048 * D ≤ m * k → (v : Vector3f) (p : Vector6f) → T (le (distance v p) (of_int binary32 (pos D)))
-    → takes (judged (Tracking (since_taken (seconds_of k) m)) true v p (seconds_of k)).action ≡ true
+    → takes (judged (Tracking (since_taken (seconds_of k) m)) (Some v) p (seconds_of k)).action ≡ true
 unfolding judged sighting_judged
 widening_takes k m D K l h r v p small =
     (inside_taken (since_taken (seconds_of k) m) (distance v p) (seconds_of k) (is_true (lt (distance v p) (radius (since_taken (seconds_of k) m))) (widens k m D K l h r (distance v p) small))).0

@@ -1,5 +1,5 @@
 -- Document 01, 'Gate', the vision clock, and the gate together with it. Assumes nothing.
-use Rattle.std.specs.Prelude.{Bool, cond, Float}
+use Rattle.std.specs.Prelude.{Bool, cond, Float, Option}
 use Rattle.std.specs.Float.{binary32}
 use Rattle.std.specs.Float.Ieee.{add, le}
 use Rattle.na.specs.declared.Vector3f.{Vector3f}
@@ -26,9 +26,9 @@ unfoldable pub new_vision : Vision
 new_vision = record { gate = Gate.Seeding fresh_seeding; time_since_vision_update_s = vision_clock_start_s }
 
 -- a tick: the gate judges, and the clock moves by whether it took the sighting
-unfoldable pub vision_after : Vision → Bool → Vector3f → Vector6f → Float → VisionAnswer
-vision_after v seen sighting predicted dt =
-    let j = judged v.gate seen sighting predicted dt in
+unfoldable pub vision_after : Vision → Option Vector3f → Vector6f → Float → VisionAnswer
+vision_after v sighting predicted dt =
+    let j = judged v.gate sighting predicted dt in
     record {
       action = j.action;
       vision = record { gate = j.gate; time_since_vision_update_s = clock_after v.time_since_vision_update_s (takes j.action) dt };

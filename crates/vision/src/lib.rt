@@ -4,7 +4,7 @@
 ghost use Rattle.std.specs.Prelude.{◌≡◌};
 ghost use Rattle.vision.specs.Vision.{clock_after, active, new_vision, vision_after};
 
-use gate::VisionGateState;
+use gate::{Judgement, VisionGateState};
 use gate_action::GateAction;
 use na::{Vector3f, Vector6f};
 use params::{VISION_ACTIVE_TIMEOUT_S, VISION_CLOCK_START_S};
@@ -59,23 +59,17 @@ impl Vision {
 
     // One tick: the gate judges, and the clock moves.
     #[tactic(auto, unfolding(crate::specs::Vision::vision_after))]
-    pub fn update(
-        self,
-        seen: bool,
-        sighting: Vector3f,
-        predicted: Vector6f,
-        dt: f32,
-    ) -> VisionAnswer
-        ensures { result ≡ vision_after self seen sighting predicted dt }
+    pub fn update(self, sighting: Option<Vector3f>, predicted: Vector6f, dt: f32) -> VisionAnswer
+        ensures { result ≡ vision_after self sighting predicted dt }
     {
-        let gate = self.gate;
-        let j = gate.judge(seen, sighting, predicted, dt);
-        let action = j.action;
-        let next = j.gate;
-        let clock = clock_after(self.time_since_vision_update_s, action.takes(), dt);
+        let Judgement { action, gate } = self.gate.judge(sighting, predicted, dt);
         let vision = Vision {
-            gate: next,
-            time_since_vision_update_s: clock,
+            gate,
+            time_since_vision_update_s: clock_after(
+                self.time_since_vision_update_s,
+                action.takes(),
+                dt,
+            ),
         };
         VisionAnswer { action, vision }
     }

@@ -4,10 +4,11 @@
 ghost use Rattle.std.specs.Prelude.{◌≡◌};
 ghost use Rattle.wheels.specs.Outputs.{friction_compensated, finish_outputs};
 
+use inputs::FinishInput;
 use limits::clamp_accel;
-use matrices::rotation::rotate_to_global;
-use matrices::{Matrix3, Matrix4x3};
+use matrices::rotation::Rotation;
 use na::{Vector3f, Vector4f};
+use setpoints::ManeuverSetpoints;
 use vectors::sub;
 
 // `BodyController`'s outputs that finish sets, and the acceleration's clamp mark.
@@ -21,40 +22,29 @@ pub struct FinishOutputs {
 
 // The acceleration less what the friction force, given in local axes, will take.
 #[tactic(auto, unfolding(crate::specs::Outputs::friction_compensated))]
-fn friction_compensated(
-    c: f32,
-    s: f32,
-    i_inv: Matrix3,
-    friction_force_local: Vector3f,
-    body_accel: Vector3f,
-) -> Vector3f
-    ensures { result ≡ friction_compensated c s i_inv friction_force_local body_accel }
+fn friction_compensated(heading: Rotation, i: FinishInput, body_accel: Vector3f) -> Vector3f
+    ensures { result ≡ friction_compensated heading i body_accel }
 {
-    let friction_force_global = rotate_to_global(c, s, friction_force_local);
-    sub(body_accel, i_inv.mul(friction_force_global))
+    let friction_force_global = heading.to_global(i.friction_force_local);
+    sub(body_accel, i.i_inv.mul(friction_force_global.into()).into())
 }
 
-// c and s are the cosine and sine of the estimate's heading.
+// `heading` is the estimate's.
 #[tactic(auto, unfolding(crate::specs::Outputs::finish_outputs))]
 pub fn finish_outputs(
-    c: f32,
-    s: f32,
-    i_inv: Matrix3,
-    twist2wheel: Matrix4x3,
-    accel2wheel: Matrix4x3,
-    friction_force_local: Vector3f,
-    body_twist: Vector3f,
-    body_accel: Vector3f,
+    heading: Rotation,
+    i: FinishInput,
+    setpoints: ManeuverSetpoints,
 ) -> FinishOutputs
-    ensures { result ≡ finish_outputs c s i_inv twist2wheel accel2wheel friction_force_local body_twist body_accel }
+    ensures { result ≡ finish_outputs heading i setpoints }
 {
-    let accel = friction_compensated(c, s, i_inv, friction_force_local, body_accel);
+    let accel = friction_compensated(heading, i, setpoints.body_accel);
     let clamp = clamp_accel(accel);
     let value = clamp.value;
     FinishOutputs {
         body_accel_out_fric_comp: value,
         accel_clamped: clamp.clamped,
-        wheel_vel_out: twist2wheel.mul(body_twist),
-        wheel_torque_out: accel2wheel.mul(value),
+        wheel_vel_out: i.twist2wheel.mul(setpoints.body_twist.into()).into(),
+        wheel_torque_out: i.accel2wheel.mul(value.into()).into(),
     }
 }

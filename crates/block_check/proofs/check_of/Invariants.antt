@@ -1,10 +1,7 @@
--- The sum so far is 1 plus that of the words passed, modulo 2^32. The measure is the number of words left. Assumes nothing.
-use Rattle.std.proofs.Common.{◌≡◌, ◌+◌, ◌-◌, ◌%◌, ◌^◌, ◌≤◌}
+-- The sum so far is 1 plus that of the words passed, modulo 2^32. Assumes nothing.
+use Rattle.std.proofs.Common.{◌≡◌, ◌+◌, ◌%◌, ◌^◌}
 use Rattle.block_check.specs.Check.{word_sum}
 use Rattle.block_check.proofs.check_of.Given as goal
 
 abbrev pub invariant-loop-i : goal.invariant-loop-i
-invariant-loop-i l = (l.i ≤ 127) × (l.sum ≡ (1 + word_sum l.block l.i) % 2 ^ 32)
-
-abbrev pub decreases-loop-i : goal.decreases-loop-i
-decreases-loop-i l = 127 - l.i
+invariant-loop-i l = l.sum ≡ (1 + word_sum l.block l.i) % 2 ^ 32

@@ -1,10 +1,7 @@
--- `zero` is whether the spare words passed are zero. The measure is the number of words left. Assumes nothing.
-use Rattle.std.proofs.Common.{◌≡◌, ◌-◌, ◌≤◌}
+-- `zero` is whether the spare words passed are zero. Assumes nothing.
+use Rattle.std.proofs.Common.{◌≡◌}
 use Rattle.block_check.specs.Check.{zero_spares}
 use Rattle.block_check.proofs.zero_spares.Given as goal
 
 abbrev pub invariant-loop-i : goal.invariant-loop-i
-invariant-loop-i l = (l.i ≤ 21) × (l.zero ≡ zero_spares l.block l.i)
-
-abbrev pub decreases-loop-i : goal.decreases-loop-i
-decreases-loop-i l = 21 - l.i
+invariant-loop-i l = l.zero ≡ zero_spares l.block l.i

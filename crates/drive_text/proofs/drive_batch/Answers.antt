@@ -1,27 +1,35 @@
--- The loop's test says that there is room for a block more and a block left, and `turn` is that block. Assumes nothing.
-use Rattle.std.proofs.Common.{arith, rules}
-use Rattle.drive_text.proofs.Going.{begin, turn, going_on}
+-- A turn is one block, cut off the front of the bytes that are left. Assumes nothing.
+use Rattle.std.proofs.Common.{rules, refl, ◌∙◌}
+use Rattle.drive_text.proofs.Going.{begin, turn, stopped, emptied}
 use Rattle.drive_text.proofs.drive_batch.Goals as goal
 
-pub loop-end-init : goal.loop-end-init
-loop-end-init c = record { room = omega arith; going = begin _ _ _ }
+pub loop-block-init : goal.loop-block-init
+loop-block-init c = record {
+  size = search rules;
+  accepted = refl;
+  going = rw (c.into_iter-block-iterator.ensures.into_iter_gives, c.take-block-items.ensures.source, c.take-block-items.ensures.count, c.chunks.ensures.rest) (begin _ _ _);
+}
 
-pub drive_next-w-requires : goal.drive_next-w-requires
-drive_next-w-requires c =
-    let on = going_on _ _ _ _ _ _ c.goes_on.ensures c.loop-end-test.true in
-    omega (arith, on.0, c.loop-end.invariant.going.small, c.loop-end.invariant.going.same)
-
-pub loop-end-smaller : goal.loop-end-smaller
-loop-end-smaller c =
-    let on = going_on _ _ _ _ _ _ c.goes_on.ensures c.loop-end-test.true in
-    omega (arith, on.0)
-
-pub loop-end-preserved : goal.loop-end-preserved
-loop-end-preserved c =
-    let on = going_on _ _ _ _ _ _ c.goes_on.ensures c.loop-end-test.true in
-    let n = c.drive_next-w.ensures in
-    let e = c.block_end-end.ensures in
+pub loop-block-preserved : goal.loop-block-preserved
+loop-block-preserved c =
+    let s = c.in-Some.ensures.steps in
+    let i = c.loop-block.invariant in
+    let n = c.write_driven-w.ensures in
     record {
-      room = omega (arith, on.0);
-      going = turn _ _ _ _ _ _ _ _ c.loop-end.invariant.going _ _ on.1.0 on.1.1 e.2 e.1 n.value n.out_after n.len_bound (search rules);
+      size = s.0.0 ∙ i.size;
+      accepted = search rules;
+      going = turn i.going _ _ _ c.write_driven-w.result c.write_driven-w.new.out i.accepted s.1 s.0.1.0 (rw i.size at s.0.1.1) s.0.1.2 (cc n.value) (cc n.out_after) n.len_bound (search rules);
     }
+
+pub returns-in-None : goal.returns-in-None
+returns-in-None c =
+    let e = emptied c.loop-block.invariant.going (λ h. (c.in-None.ensures.steps h).1.0) in
+    record { value = e.0; out_after = e.1; within = search rules }
+
+pub returns-then-w : goal.returns-then-w
+returns-then-w c =
+    let s = c.in-Some.ensures.steps in
+    let i = c.loop-block.invariant in
+    let n = c.write_driven-w.ensures in
+    let e = stopped (turn i.going _ _ _ c.write_driven-w.result c.write_driven-w.new.out i.accepted s.1 s.0.1.0 (rw i.size at s.0.1.1) s.0.1.2 (cc n.value) (cc n.out_after) n.len_bound (search rules)) c.if-w.true in
+    record { value = e.0; out_after = e.1; within = search rules }

@@ -1,10 +1,13 @@
--- The invariant of the loop of `drive_batch`: after i turns answer and text are those of i blocks. Assumes nothing.
-use Rattle.std.proofs.Common.{◌-◌, ◌≤◌}
+-- The invariant of the loop of `drive_batch`: no block is refused yet, and the rest of the batch is what the iterator has left. Assumes nothing.
+use Rattle.std.proofs.Common.{◌≡◌, false}
+use Rattle.std.specs.Iterator.Adapters.{take_source, take_count}
+use Rattle.std.specs.Slice.Iter.{chunks_rest, chunks_size}
 use Rattle.drive_text.proofs.Going.{Going}
 use Rattle.drive_text.proofs.drive_batch.Given as goal
 
-abbrev pub invariant-loop-end : goal.invariant-loop-end
-invariant-loop-end l = record { room : l.i ≤ l.room; going : Going l.fn.pass l.blocks l.fn.out l.i l.start l.w l.out }
-
-abbrev pub decreases-loop-end : goal.decreases-loop-end
-decreases-loop-end l = l.room - l.i
+abbrev pub invariant-loop-block : goal.invariant-loop-block
+invariant-loop-block l = record {
+  size : chunks_size (take_source l.block-iterator) ≡ 512;
+  accepted : l.w.refused ≡ false;
+  going : Going l.fn.pass l.blocks l.fn.out (take_count l.block-iterator) (chunks_rest (take_source l.block-iterator)) l.w l.out;
+}

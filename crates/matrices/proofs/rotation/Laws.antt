@@ -1,16 +1,22 @@
 -- What the two rotations have to do with each other, and that their zeros count. Assumes nothing.
 use mathlib.Core.Path.{◌≡◌, refl}
 use mathlib.Core.Bool.{Bool, true, false}
+use mathlib.Core.List.{[], ◌∷◌}
 use lib.Ieee.{Float, nan, inf, fin, binary32, add, mul, neg, of_bits}
 use Rattle.na.specs.declared.Vector3f.{Vector3f}
-use Rattle.na.specs.Vector.{zero_float, dot_of, add_products}
-use Rattle.matrices.specs.Matrix.{product_of3}
-use Rattle.matrices.specs.Rotation.{one_float, rotation, to_global, to_local}
+use Rattle.matrices.specs.declared.rotation.Rotation.{Rotation}
+use Rattle.na.specs.Vector.{zero_float, vector3_of, dot_of, add_products}
+use Rattle.matrices.specs.Matrix.{product_of}
+use Rattle.matrices.specs.Rotation.{one_float, z_rotation, to_global, to_local}
+
+-- by the opposite angle
+abbrev pub opposite : Rotation → Rotation
+opposite r = record { cos = r.cos; sin = neg r.sin }
 
 -- to local is to global with s negated
-pub local_is_global : (c s : Float) (v : Vector3f) → to_local c s v ≡ to_global c (neg s) v
+pub local_is_global : (r : Rotation) (v : Vector3f) → to_local r v ≡ to_global (opposite r) v
 unfolding to_local to_global
-local_is_global c s v = refl
+local_is_global r v = refl
 
 neg-neg : (x : Float) → neg (neg x) ≡ x
 unfolding neg
@@ -21,15 +27,17 @@ neg-neg (fin true m e) = refl
 neg-neg (fin false m e) = refl
 
 -- so its rows are (c, s, 0), (-s, c, 0), (0, 0, 1)
-pub local_rows : (c s : Float)
-    → rotation c (neg s)
+pub local_rows : (r : Rotation)
+    → z_rotation (opposite r)
     ≡ record {
-      r0 = record { x = c; y = s; z = zero_float };
-      r1 = record { x = neg s; y = c; z = zero_float };
-      r2 = record { x = zero_float; y = zero_float; z = one_float };
+      rows =
+          (r.cos ∷ r.sin ∷ zero_float ∷ [])
+          ∷ (neg r.sin ∷ r.cos ∷ zero_float ∷ [])
+          ∷ (zero_float ∷ zero_float ∷ one_float ∷ [])
+          ∷ [];
     }
-unfolding rotation
-local_rows c s = rw neg-neg
+unfolding z_rotation
+local_rows r = rw neg-neg
 
 add-nan : (x : Float) → add binary32 x nan ≡ nan
 unfolding add
@@ -38,7 +46,7 @@ add-nan (inf s) = refl
 add-nan (fin s m e) = refl
 
 -- the zeros of the third column are not left out: an infinite third entry makes the other two NaN
-pub infinite_third : (c s x y : Float) (b : Bool)
-    → ((to_global c s (record { x = x; y = y; z = inf b })).x ≡ nan) × ((to_global c s (record { x = x; y = y; z = inf b })).y ≡ nan)
-unfolding to_global product_of3 rotation dot_of add_products mul of_bits
-infinite_third c s x y b = (add-nan _, add-nan _)
+pub infinite_third : (r : Rotation) (x y : Float) (b : Bool)
+    → ((to_global r (record { x = x; y = y; z = inf b })).x ≡ nan) × ((to_global r (record { x = x; y = y; z = inf b })).y ≡ nan)
+unfolding to_global vector3_of product_of z_rotation dot_of add_products mul of_bits
+infinite_third r x y b = (add-nan _, add-nan _)

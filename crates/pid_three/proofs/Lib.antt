@@ -1,2 +1,0 @@
--- The laws of the PID controller. Assumes nothing.
-pub mod ThreeLaws

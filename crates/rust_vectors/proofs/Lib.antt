@@ -1,0 +1,2 @@
+-- What the loops over axes keep. Assumes nothing.
+mod Loops

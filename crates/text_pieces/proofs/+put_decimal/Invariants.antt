@@ -1,5 +1,0 @@
--- The number falls at each call of itself. Assumes nothing.
-use Rattle.text_pieces.proofs.+put_decimal.Given as goal
-
-abbrev pub decreases-put_decimal : goal.decreases-put_decimal
-decreases-put_decimal l = l.n
