@@ -20,10 +20,7 @@ pub struct Written {
 fn is_refused(line: Line) -> bool
     ensures { result ≡ is_refused line }
 {
-    match line {
-        Line::Tick(_) => false,
-        Line::Refused(_) => true,
-    }
+    matches!(line, Line::Refused(_))
 }
 
 // Puts a text behind the at bytes that are there; what stands behind it stays.
@@ -62,9 +59,9 @@ pub fn write_driven(driven: Driven, at: usize, out: &mut [u8]) -> Written
     ensures out_after { out.new ≡ behind out.old at (line_text driven.line) }
     ensures len_bound { result.len ≤ at + 128 }
 {
-    let line = driven.line;
-    let pass = driven.pass;
-    let refused = is_refused(line);
-    let len = append_line(out, at, line);
-    Written { pass, len, refused }
+    Written {
+        pass: driven.pass,
+        len: append_line(out, at, driven.line),
+        refused: is_refused(driven.line),
+    }
 }

@@ -19,9 +19,10 @@ fn run_block<O: Operation>(rt: &HostRuntime, list: &mut File, tally: Tally) -> i
     let n = read_full(list, &mut block)?;
     let found = record::mismatches::<O>(&block[..n]);
     report::show::<O>(rt, &block[..n], tally)?;
-    let mut next = tally.count((n / 8) as u64, found as u64);
-    next.cut_short = tally.cut_short | (n % 8 != 0);
-    Ok(next)
+    Ok(Tally {
+        cut_short: tally.cut_short | (n % 8 != 0),
+        ..tally.count((n / 8) as u64, found as u64)
+    })
 }
 
 // Reads a list to its end. Nothing says that a file ends, so the loop has as many turns as no run

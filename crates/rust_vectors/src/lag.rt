@@ -73,15 +73,7 @@ pub(crate) fn step(header: &[u8], call: &[u8], words: &mut [u32; 12])
     ensures { words.new ≡ step header.now call.now words.old }
 {
     match new_from_horizon(word_at(header, 0)) {
-        Ok(l) => {
-            if is_wanted(l, header) {
-                step_made(l, call, words);
-            } else {
-                words[0] = UNANSWERED;
-            }
-        }
-        Err(_) => {
-            words[0] = UNANSWERED;
-        }
+        Ok(l) if is_wanted(l, header) => step_made(l, call, words),
+        _ => words[0] = UNANSWERED,
     }
 }

@@ -24,24 +24,20 @@ use tally::Tally;
 use vector_run::report::line;
 
 fn cut_short(tally: Tally) -> Tally {
-    let mut cut = tally;
-    cut.cut_short = true;
-    cut
+    Tally {
+        cut_short: true,
+        ..tally
+    }
 }
 
-// Counts a call, if it is whole, and shows it where it is among the first mismatches. A kind that is
-// none is one.
+// Counts a call, and shows it where it is among the first mismatches. A kind that is none is one.
 fn judge(
     rt: &HostRuntime,
     tally: Tally,
     layout: Layout,
     words: &[u32; 12],
     call: &[u8],
-    whole: bool,
 ) -> io::Result<Tally> {
-    if !whole {
-        return Ok(cut_short(tally));
-    }
     let known = word_at(call, 0) < layout.kinds;
     if known & agrees(words, call, layout.compared) {
         return Ok(tally.count(1, 0));
@@ -75,10 +71,11 @@ fn run_call(
     tally: Tally,
 ) -> io::Result<Tally> {
     let layout = layout_of(list);
-    let mut call = [0; 140];
-    let whole = read_record(rt, &mut call, layout.call)?;
+    let Some(call) = read_record(rt, layout.call)? else {
+        return Ok(cut_short(tally));
+    };
     step(list, header, &call, words);
-    judge(rt, tally, layout, words, &call, whole)
+    judge(rt, tally, layout, words, &call)
 }
 
 // The calls of a run, as many as its header says, unless the input ends before. Nothing is remembered
@@ -103,19 +100,19 @@ fn run_calls(
 // Reads a run's header, and runs its calls.
 fn run_run(rt: &HostRuntime, list: ListOf, tally: Tally) -> io::Result<Tally> {
     let layout = layout_of(list);
-    let mut header = [0; 140];
-    if read_record(rt, &mut header, layout.header)? {
-        run_calls(rt, list, &header, word_at(&header, layout.calls), tally)
-    } else {
-        Ok(cut_short(tally))
+    match read_record(rt, layout.header)? {
+        Some(header) => run_calls(rt, list, &header, word_at(&header, layout.calls), tally),
+        None => Ok(cut_short(tally)),
     }
 }
 
 // The runs of a list, as many as its first word says, unless the input ends before.
 fn run_list(rt: &HostRuntime, list: ListOf) -> io::Result<Tally> {
     let mut first = [0; 4];
-    let mut tally = Tally::new();
-    tally.cut_short = read_full(&mut rt.stdin(), &mut first)? != 4;
+    let mut tally = Tally {
+        cut_short: read_full(&mut rt.stdin(), &mut first)? != 4,
+        ..Tally::new()
+    };
     for _ in 0..word_at(&first, 0) {
         tally = run_run(rt, list, tally)?;
         if tally.cut_short {

@@ -1,25 +1,15 @@
-// The words of the four answers, which are zeros before; word 2 has the number of a refusal.
+// The words of the four answers, which are zeros before.
 use crate::put::{put, put_two};
 use call_answers::{Finished, Measurement, Sighted};
+use float_bits::to_bits;
 use na::Vector3f;
 use plan_answer::PlanAnswer;
 use tick::Outputs;
 
 fn put_measurement(words: &mut [u32; 96], m: Measurement) {
-    put(
-        words,
-        3,
-        &[
-            m.vision_pose.x,
-            m.vision_pose.y,
-            m.vision_pose.z,
-            m.wheel_vel.x,
-            m.wheel_vel.y,
-            m.wheel_vel.z,
-            m.wheel_vel.w,
-            m.gyro_theta,
-        ],
-    );
+    put::<3>(words, 3, m.vision_pose.into());
+    put::<4>(words, 6, m.wheel_vel.into());
+    words[10] = to_bits(m.gyro_theta);
 }
 
 pub(crate) fn put_sight(words: &mut [u32; 96], s: Sighted) {
@@ -41,34 +31,15 @@ pub(crate) fn put_plan(words: &mut [u32; 96], planned: PlanAnswer) {
     }
 }
 
-pub(crate) fn put_steer(words: &mut [u32; 96], t: Vector3f) {
-    put(words, 25, &[t.x, t.y, t.z]);
+pub(crate) fn put_steer(words: &mut [u32; 96], friction_twist: Vector3f) {
+    put::<3>(words, 25, friction_twist.into());
 }
 
 pub(crate) fn put_outputs(words: &mut [u32; 96], o: Outputs) {
-    put(
-        words,
-        28,
-        &[
-            o.body_twist_out.x,
-            o.body_twist_out.y,
-            o.body_twist_out.z,
-            o.body_accel_out.x,
-            o.body_accel_out.y,
-            o.body_accel_out.z,
-            o.body_accel_out_fric_comp.x,
-            o.body_accel_out_fric_comp.y,
-            o.body_accel_out_fric_comp.z,
-            o.wheel_vel_out.x,
-            o.wheel_vel_out.y,
-            o.wheel_vel_out.z,
-            o.wheel_vel_out.w,
-            o.wheel_torque_out.x,
-            o.wheel_torque_out.y,
-            o.wheel_torque_out.z,
-            o.wheel_torque_out.w,
-        ],
-    );
+    put_two(words, 28, o.body_twist_out, o.body_accel_out);
+    put::<3>(words, 34, o.body_accel_out_fric_comp.into());
+    put::<4>(words, 37, o.wheel_vel_out.into());
+    put::<4>(words, 41, o.wheel_torque_out.into());
 }
 
 pub(crate) fn put_finish(words: &mut [u32; 96], f: Finished) {

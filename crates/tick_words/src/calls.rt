@@ -1,23 +1,20 @@
-// A tick's four calls, with the words of their answers, which are zeros before, up to the first call
-// that is turned away, whose refusal is word 2.
+// A tick's four calls, with the words of their answers, up to the first call that is turned away, whose
+// refusal is word 2.
 use crate::answers::{put_finish, put_plan, put_sight, put_steer};
-use crate::block::refuse;
 use body_controller::{BodyController, Called};
+use refusal::Refusal;
 use sight_inputs::{plan_input, sight_input};
 use steer_inputs::{finish_input, steer_input};
 
-pub(crate) fn sight(c: BodyController, block: &[u8], words: &mut [u32; 96]) -> BodyController {
+// A block that sight turns away is refused.
+pub(crate) fn sight(
+    c: BodyController,
+    block: &[u8],
+    words: &mut [u32; 96],
+) -> Result<BodyController, Refusal> {
     let Called { answer, controller } = c.sight(sight_input(block));
-    match answer {
-        Ok(sighted) => {
-            put_sight(words, sighted);
-            plan(controller, block, words)
-        }
-        Err(refusal) => {
-            refuse(words, refusal);
-            controller
-        }
-    }
+    put_sight(words, answer?);
+    Ok(plan(controller, block, words))
 }
 
 // Word 18 of a plan that was turned away is 4, behind plan's four answers.

@@ -4,13 +4,12 @@
 #![tactic(auto)]
 
 mod answers; // answers.rt: the words of the four answers
-mod block; // block.rt: a block's words, and the controller after it
+mod block; // block.rt: a block's words, and the pass after it
 mod calls; // calls.rt: the four calls
 mod put; // put.rt: vectors and marks among the 96 words
 mod state; // state.rt: the words of what the controller keeps
 
-use block::{REFUSED, run_block};
-use body_controller::BodyController;
+use block::run_block;
 use full_read::read_full;
 use std::io;
 
@@ -35,25 +34,16 @@ fn write(rt: &HostRuntime, words: &[u32; 96], n: usize) -> io::Result<bool> {
     Ok(n == 512)
 }
 
-// Reads and runs block after block; c stands for no pass until a block begins one.
-fn run(rt: &HostRuntime, mut c: BodyController) -> io::Result<()> {
-    let mut driving = false;
+fn main(rt: HostRuntime) -> io::Result<()> {
+    let mut pass = None;
     for _ in 0..TURNS {
         let mut block = [0; 512];
         let mut words = [0; 96];
         let n = read_full(&mut rt.stdin(), &mut block)?;
-        c = run_block(c, driving, &block[..n], &mut words);
-        driving = words[1] != REFUSED;
-        if !write(rt, &words, n)? {
+        pass = run_block(pass, &block[..n], &mut words);
+        if !write(&rt, &words, n)? {
             break;
         }
-    }
-    Ok(())
-}
-
-fn main(rt: HostRuntime) -> io::Result<()> {
-    if let Ok(c) = BodyController::new(1) {
-        run(&rt, c)?;
     }
     Ok(())
 }

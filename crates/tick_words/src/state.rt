@@ -14,11 +14,8 @@ fn put_vision(words: &mut [u32; 96], vision: Vision) {
     match vision.gate {
         VisionGateState::Seeding(s) => {
             words[49] = s.n;
-            put(
-                words,
-                50,
-                &[s.pos_sum.x, s.pos_sum.y, s.pos_sq_sum.x, s.pos_sq_sum.y],
-            );
+            put::<2>(words, 50, s.pos_sum.into());
+            put::<2>(words, 52, s.pos_sq_sum.into());
         }
         VisionGateState::Tracking(t) => {
             words[48] = 1;
@@ -31,19 +28,17 @@ fn put_held(words: &mut [u32; 96], memory: Memory) {
     if let Some(sample) = memory.held {
         words[58] = 1;
         put_two(words, 59, sample.state.pose, sample.state.twist);
-        put(words, 65, &[sample.accel.x, sample.accel.y, sample.accel.z]);
+        put::<3>(words, 65, sample.accel.into());
     }
 }
 
 fn put_position(words: &mut [u32; 96], p: GlobalPosition) {
     words[68] = 2;
+    put::<3>(words, 69, p.target_pose.into());
     put(
         words,
-        69,
-        &[
-            p.target_pose.x,
-            p.target_pose.y,
-            p.target_pose.z,
+        72,
+        [
             p.max_linear_vel,
             p.max_angular_vel,
             p.max_linear_acc,
@@ -57,7 +52,7 @@ fn put_line(words: &mut [u32; 96], l: HeadingLine) {
     put(
         words,
         69,
-        &[
+        [
             l.global_theta,
             l.start_x,
             l.start_y,
