@@ -2,21 +2,22 @@
 use mathlib.Core.Path.{◌≡◌, refl}
 use Rattle.std.specs.Prelude.{Ok, Err}
 use Rattle.refusal.specs.declared.Refusal.TheVariants as Why
+use Rattle.tick_length.specs.TickLength.{tick_length_of}
 use Rattle.active_brake.specs.Brake.{new_brake, brake_of}
 
 -- k 0 and 65 are refused with 1, and 1 and 64 make a brake
 pub zero_refused : brake_of 0 ≡ Err Why.TickLength
-unfolding brake_of
+unfolding brake_of tick_length_of
 zero_refused = refl
 
 pub sixty_five_refused : brake_of 65 ≡ Err Why.TickLength
-unfolding brake_of
+unfolding brake_of tick_length_of
 sixty_five_refused = refl
 
 pub one_made : brake_of 1 ≡ Ok (new_brake 1)
-unfolding brake_of
+unfolding brake_of tick_length_of
 one_made = refl
 
 pub sixty_four_made : brake_of 64 ≡ Ok (new_brake 64)
-unfolding brake_of
+unfolding brake_of tick_length_of
 sixty_four_made = refl

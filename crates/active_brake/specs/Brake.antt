@@ -1,10 +1,10 @@
 -- active_brake.rs over the PID controller of four axes, one for each wheel. Assumes nothing.
-use Rattle.std.specs.Prelude.{ℕ, cond, Result, Ok, Err, replicate}
+use Rattle.std.specs.Prelude.{ℕ, Result, replicate}
+use Rattle.std.specs.Result.{result_map_both}
 use Rattle.na.specs.declared.Vector4f.{Vector4f}
 use Rattle.na.specs.Vector.{zero_float, entries4, vector4_of}
 use Rattle.refusal.specs.declared.Refusal.{Refusal}
-use Rattle.refusal.specs.declared.Refusal.TheVariants as Why
-use Rattle.tick_length.specs.TickLength.{is_tick_length, seconds_of}
+use Rattle.tick_length.specs.TickLength.{tick_length_of, seconds_of}
 use Rattle.brake_wheel.specs.Wheel.{wheel_controller}
 use Rattle.pid_axes.specs.Axes.{calculated, reset_of}
 use Rattle.active_brake.specs.declared.ActiveBrakeController.{ActiveBrakeController}
@@ -16,7 +16,7 @@ new_brake k = record { pid = record { axes = replicate 4 wheel_controller }; tic
 
 -- the answer to a k: a brake where k is a tick length's
 unfoldable pub brake_of : ℕ → Result ActiveBrakeController Refusal
-brake_of k = cond (is_tick_length k) (Ok (new_brake k)) (Err Why.TickLength)
+brake_of k = result_map_both (λ t. new_brake t.k) (λ r. r) (tick_length_of k)
 
 -- the setpoint is rest, the process variable the measured speed
 unfoldable pub computed : ActiveBrakeController → Vector4f → BrakeAnswer

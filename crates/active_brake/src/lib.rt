@@ -19,6 +19,7 @@ pub struct ActiveBrakeController {
 }
 
 // The currents in A, one for each wheel, beside the brake as the call leaves it.
+// Both by value, no `&mut` and no pair: document 01 has an answer struct beside the new state.
 #[derive(Clone, Copy)]
 pub struct BrakeAnswer {
     pub currents: Vector4f,

@@ -10,12 +10,9 @@ use full_read::read_full;
 use line_text::Line;
 use std::io;
 
-// A refusal as a hexadecimal digit.
+// A refusal as a hexadecimal digit. A `u8`, as it is the number that drive's line has.
 fn digit(refusal: u8) -> u8 {
-    b"0123456789abcdef"
-        .get(refusal as usize)
-        .copied()
-        .unwrap_or(b'?')
+    char::from_digit(refusal as u32, 16).unwrap_or('?') as u8
 }
 
 // How an empty pass answers a block: a dot for a tick, or the refusal.
@@ -44,6 +41,7 @@ fn check_after(check: u32, old: u32, new: u32, fresh: bool) -> u32 {
 }
 
 // The glyph with one bit of a word turned. The block is left as it was.
+// block, word and fresh, here and below: a struct of the three would be made for each word alone.
 fn turned(block: &mut [u8; 512], word: u8, bit: u8, fresh: bool) -> u8 {
     let old = word_at(block, word as usize);
     let check = word_at(block, 127);
@@ -59,8 +57,8 @@ fn turned(block: &mut [u8; 512], word: u8, bit: u8, fresh: bool) -> u8 {
 // A word's line: a glyph for each of its bits, the lowest first.
 fn print_word(rt: &HostRuntime, block: &mut [u8; 512], word: u8, fresh: bool) -> io::Result<()> {
     let mut line = [b'\n'; 33];
-    for bit in 0..32 {
-        line[bit as usize] = turned(block, word, bit, fresh);
+    for (bit, glyph) in (0..32).zip(&mut line) {
+        *glyph = turned(block, word, bit, fresh);
     }
     rt.write_all(&line)
 }
@@ -76,8 +74,8 @@ fn print_words(rt: &HostRuntime, block: &mut [u8; 512], words: u8, fresh: bool) 
 // One line: a glyph for each length.
 fn print_lengths(rt: &HostRuntime, bytes: &[u8; 1024]) -> io::Result<()> {
     let mut line = [b'\n'; 1026];
-    for n in 0..=1024 {
-        line[n] = glyph(&bytes[..n]);
+    for (n, place) in line[..1025].iter_mut().enumerate() {
+        *place = glyph(&bytes[..n]);
     }
     rt.write_all(&line)
 }

@@ -7,9 +7,13 @@ ghost use Rattle.block_check.specs.Check.{check_of, zero_spares, spare_zero};
 use block_words::word_at;
 
 // Where words lie that more than one crate reads, document 01, 'Records'.
+pub const NUMBER: usize = 1;
+
 pub const FLAGS: usize = 2;
 
 pub const MODE: usize = 3;
+
+pub const TICK_LENGTH: usize = 105;
 
 pub const CHECK: usize = 127;
 
@@ -33,8 +37,7 @@ pub fn check_of(block: &[u8]) -> u32
     sum
 }
 
-// Whether the 21 spare words are zero. Each is looked at: to stop at the first that is not costs a
-// branch for each word, and twice the time.
+// Whether the 21 spare words are zero. All are looked at: to stop at the first takes twice as long.
 #[tactic(auto, unfolding(crate::specs::Check::zero_spares))]
 fn zero_spares(block: &[u8]) -> bool
     ensures { result ≡ zero_spares block.now 21 }

@@ -15,9 +15,7 @@ pub fn float_at(block: &[u8], i: usize) -> f32
     from_bits(word_at(block, i))
 }
 
-// The floats of the words from `at` on, a number of 8 bits, so that no sum overflows. A loop: with
-// `from_fn` the reading of a tick's inputs takes twice as long.
-#[tactic(auto, unfolding(crate::specs::Floats::floats_at))]
+// The floats from word `at` on, a u8 so that no sum overflows. A loop: `from_fn` takes twice as long.
 pub fn floats_at<const N: usize>(block: &[u8], at: u8) -> [f32; N]
     ensures { result ≡ floats_at block.now at N }
 {

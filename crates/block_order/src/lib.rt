@@ -8,8 +8,7 @@ ghost use Rattle.block_order.specs.Order.{order_tested, order_of};
 use refusal::Refusal;
 use tick_length::TickLength;
 
-// A block's tick length and number beside the drive's own length and the next tick's number: 9, then
-// 10.
+// A block's tick length beside the drive's own: 9. Then its number beside the next tick's: 10.
 pub fn order_tested(
     tick: TickLength,
     own: TickLength,

@@ -4,7 +4,7 @@
 ghost use Rattle.std.specs.Prelude.{◌≡◌};
 ghost use Rattle.block_tests.specs.Tests.{inputs_tested, format_tested, block_tested};
 
-use block_check::{CHECK, MODE, check_of, spare_zero};
+use block_check::{CHECK, MODE, TICK_LENGTH, check_of, spare_zero};
 use block_words::word_at;
 use cmd::is_mode;
 use refusal::Refusal;
@@ -14,8 +14,6 @@ use tick_length::TickLength;
 const BYTES: usize = 512;
 
 const VERSION: usize = 0;
-
-const TICK_LENGTH: usize = 105;
 
 // The last two tests: 1, then 4.
 #[tactic(auto, unfolding(crate::specs::Tests::inputs_tested))]

@@ -1,8 +1,8 @@
 -- A new controller, and the reset call: document 01, 'The plain drive' and 'The tick's four calls'. Assumes nothing.
-use Rattle.std.specs.Prelude.{ℕ, Result, Ok, Err}
+use Rattle.std.specs.Prelude.{ℕ, Result, Err}
+use Rattle.std.specs.Result.{result_map_both}
 use Rattle.na.specs.Vector.{zeros6}
 use Rattle.refusal.specs.declared.Refusal.{Refusal}
-use Rattle.tick_length.specs.declared.TickLength.{TickLength}
 use Rattle.tick_length.specs.TickLength.{tick_length_of}
 use Rattle.context.specs.declared.ControlContext.{ControlContext}
 use Rattle.context.specs.Context.{new_context}
@@ -27,13 +27,9 @@ started choices = record {
   counts = no_counts;
 }
 
--- what `new` answers to a tick length's answer
-abbrev pub made_from : Result TickLength Refusal → Result BodyController Refusal
-made_from (Ok t) = Ok (started (record { tick = t }))
-made_from (Err r) = Err r
-
+-- what `new` answers: a controller of that tick length, or its refusal
 unfoldable pub new_of : ℕ → Result BodyController Refusal
-new_of k = made_from (tick_length_of k)
+new_of k = result_map_both (λ t. started (record { tick = t })) (λ r. r) (tick_length_of k)
 
 -- ---- the turn
 

@@ -1,9 +1,9 @@
 -- Steer, document 01, 'The tick's four calls' and 'When a call is turned away'. Assumes nothing.
 use Rattle.std.specs.Prelude.{ℕ, Bool, cond, ◌&&◌, Ok}
+use Rattle.std.specs.Option.{option_map_or}
 use Rattle.refusal.specs.declared.Refusal.TheVariants as Why
 use Rattle.body_controller.specs.declared.BodyController.{BodyController}
 use Rattle.body_controller.specs.declared.Called.{Called}
-use Rattle.body_controller.specs.declared.Turn.{Turn}
 use Rattle.body_controller.specs.declared.Turn.TheVariants as Turns
 use Rattle.tick_length.specs.TickLength.{seconds_of}
 use Rattle.na.specs.declared.Vector3f.{Vector3f}
@@ -15,6 +15,7 @@ use Rattle.context_steer.specs.Steer as Context'
 use Rattle.inputs.specs.declared.SteerInput.{SteerInput}
 use Rattle.call_answers.specs.Steer.{limited}
 use Rattle.body_controller.specs.Controller.{turned_to, refused}
+use Rattle.body_controller.specs.Turn.{planned_at}
 
 -- setpoints and context after tracking and recovery
 abbrev pub tracked_by : BodyController → Planned → SteerInput → Tracked
@@ -35,22 +36,9 @@ planner_failed c = refused Why.PlannerFailed (turned_to Turns.Sight (Context.pla
 abbrev pub fails_at : Planned → SteerInput → Bool
 fails_at p i = i.planner_failed && needs_plan p.answer
 
--- by whose turn it is
-abbrev pub steer_at : Turn → BodyController → SteerInput → Called Vector3f
-steer_at Turns.Sight c i = refused Why.OutOfTurn c
-steer_at Turns.Plan c i = refused Why.OutOfTurn c
-steer_at (Turns.Steer p) c i = cond (fails_at p i) (planner_failed c) (steered c p i)
-steer_at (Turns.Finish s) c i = refused Why.OutOfTurn c
-
 unfoldable pub steer_of : BodyController → SteerInput → Called Vector3f
-steer_of c i = steer_at c.turn c i
+steer_of c i = option_map_or (λ p. cond (fails_at p i) (planner_failed c) (steered c p i)) (planned_at c.turn) (refused Why.OutOfTurn c)
 
 -- document 01's number: 2, then 12
-abbrev pub refusal_at : Turn → SteerInput → ℕ
-refusal_at Turns.Sight i = 2
-refusal_at Turns.Plan i = 2
-refusal_at (Turns.Steer p) i = cond (fails_at p i) 12 0
-refusal_at (Turns.Finish s) i = 2
-
 abbrev pub steer_refusal : BodyController → SteerInput → ℕ
-steer_refusal c i = refusal_at c.turn i
+steer_refusal c i = option_map_or (λ p. cond (fails_at p i) 12 0) (planned_at c.turn) 2

@@ -1,5 +1,7 @@
 -- The turn, a term of document 01: which of the tick's four calls is next. Assumes nothing.
-use Rattle.std.specs.Prelude.{Bool, true, false}
+use Rattle.std.specs.Prelude.{Bool, true, false, Option, Some, None}
+use Rattle.call_answers.specs.declared.Steered.{Steered}
+use Rattle.context.specs.declared.Planned.{Planned}
 use Rattle.body_controller.specs.declared.Turn.{Turn}
 use Rattle.body_controller.specs.declared.Turn.TheVariants as Turns
 
@@ -16,3 +18,17 @@ is_plan Turns.Sight = false
 is_plan Turns.Plan = true
 is_plan (Turns.Steer p) = false
 is_plan (Turns.Finish s) = false
+
+-- at steer's turn, what plan left to it
+abbrev pub planned_at : Turn → Option Planned
+planned_at Turns.Sight = None
+planned_at Turns.Plan = None
+planned_at (Turns.Steer p) = Some p
+planned_at (Turns.Finish s) = None
+
+-- at finish's turn, what steer left to it
+abbrev pub steered_at : Turn → Option Steered
+steered_at Turns.Sight = None
+steered_at Turns.Plan = None
+steered_at (Turns.Steer p) = None
+steered_at (Turns.Finish s) = Some s

@@ -41,6 +41,7 @@ pub struct BodyController {
 }
 
 // A call's answer, or why it was turned away, beside the controller as the call leaves it.
+// Both by value, no `&mut` and no pair: document 01 has an answer struct beside the new state.
 #[derive(Clone, Copy)]
 pub struct Called<A> {
     pub answer: Result<A, Refusal>,

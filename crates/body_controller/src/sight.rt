@@ -19,11 +19,7 @@ impl BodyController {
     fn see(self, i: SightInput) -> Called<Sighted>
         ensures { result ≡ sighted self i }
     {
-        let sighting = if i.vision_update {
-            Some(i.vision_pose_meas)
-        } else {
-            None
-        };
+        let sighting = i.vision_update.then_some(i.vision_pose_meas);
         let Seen { action, context } = see(
             self.context,
             sighting,

@@ -41,7 +41,7 @@ impl BodyController {
     }
 
     // A planner failure drops the trajectory and closes the tick.
-    #[tactic(auto, unfolding(crate::specs::Steer::planner_failed, crate::specs::Controller::refused))]
+    #[tactic(auto, unfolding(crate::specs::Steer::planner_failed))]
     fn fail_plan(self) -> Called<Vector3f>
         ensures { result ≡ planner_failed self }
     {
@@ -53,7 +53,7 @@ impl BodyController {
         closed.refuse(Refusal::PlannerFailed)
     }
 
-    // The friction twist, local and gated.
+    // Refusals 2 and 12, then tracking, recovery and limits; answers the friction twist, local and gated.
     #[tactic(auto, unfolding(crate::specs::Steer::steer_of, crate::specs::Steer::planner_failed, crate::specs::Steer::steered, crate::specs::Controller::refused))]
     pub fn steer(self, i: SteerInput) -> Called<Vector3f>
         ensures { (result ≡ steer_of self i) × (number_of result.answer ≡ steer_refusal self i) }

@@ -24,7 +24,7 @@ pub struct Measurement {
 pub struct Sighted {
     pub action: GateAction,
     pub measurement: Measurement,
-    // Whether vision counts.
+    // Whether vision counts: document 01 has it beside the measurement, which is handed on either way.
     pub effective_vision_update: bool,
     // After any overwriting.
     pub state_prediction: Vector6f,
@@ -34,11 +34,12 @@ pub struct Sighted {
 #[derive(Clone, Copy)]
 pub struct Steered {
     pub setpoints: ManeuverSetpoints,
+    // A clamp mark: what was clamped counts either way, so no Option.
     pub vel_clamped: bool,
     pub heading: Rotation,
 }
 
-// What steer leaves to finish, beside its answer.
+// What steer leaves to finish, beside its answer. No pair: the fields' names say which is which.
 #[derive(Clone, Copy)]
 pub struct Limited {
     pub friction_twist: Vector3f,
@@ -48,7 +49,7 @@ pub struct Limited {
 #[derive(Clone, Copy)]
 pub struct Finished {
     pub outputs: Outputs,
-    // The two clamp marks.
+    // The two clamp marks: what was clamped counts either way, so no Option.
     pub vel_clamped: bool,
     pub accel_clamped: bool,
     pub wheels_disabled: bool,

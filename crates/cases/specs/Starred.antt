@@ -27,6 +27,7 @@ abbrev pub active_at : ℕ → ℕ → Bool
 active_at k m = active (clock_since zero_float (seconds_of k) m)
 
 -- the bits of the current that a fresh brake gives a wheel of this speed
+-- (written out, so that the statement reads by itself: the proof's own copy is one that a computation unfolds)
 abbrev pub current_bits : ℕ → Float → ℕ
 current_bits k speed = to_bits binary32 (calculated wheel_controller zero_float speed (seconds_of k)).output
 

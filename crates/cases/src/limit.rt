@@ -14,6 +14,7 @@ fn put_number(block: &mut [u8; 512], number: u32) {
 
 // The blocks have version 1 and k = 4. Only a refused one is printed.
 pub(crate) fn drive_to_limit(rt: &HostRuntime) -> io::Result<()> {
+    // An array, since memory is fixed; all of it is the block.
     let mut block = [0; 512];
     block[0] = 1;
     block[420] = 4;

@@ -18,6 +18,7 @@ const TURNS: u32 = 100_000;
 
 // The last line of a pass.
 fn print_last(rt: &HostRuntime, pass: Pass) -> io::Result<()> {
+    // A length beside the array, as memory is fixed: its first len bytes are the line.
     let mut line = [0; 128];
     let len = write_last(pass, &mut line);
     rt.write_all(&line[..len])
@@ -31,6 +32,7 @@ pub(crate) fn drive_next(
     block: &[u8],
     shown: bool,
 ) -> io::Result<Pass> {
+    // The first len bytes are the line, as above.
     let mut line = [0; 128];
     let Written { pass, len, refused } = drive_block(pass, block, &mut line);
     if shown | refused {
@@ -46,6 +48,7 @@ pub(crate) fn drive_next(
 fn drive_passes(rt: &HostRuntime) -> io::Result<()> {
     let mut pass = Pass::Empty;
     for _ in 0..TURNS {
+        // An array, since memory is fixed: its first n bytes are what was read.
         let mut block = [0; 512];
         let n = read_full(&mut rt.stdin(), &mut block)?;
         if n == 0 {

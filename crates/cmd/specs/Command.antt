@@ -1,9 +1,8 @@
 -- Document 01, 'Records': the commands, the words that they are read from, and their fields. Assumes nothing.
-use Rattle.std.specs.Prelude.{ℕ, Bool, cond, List, [], ◌∷◌, get_or, eqb, ltb, Float, Result, Ok, Err}
-use Rattle.std.specs.Float.{binary32}
-use Rattle.std.specs.Float.Ieee.{of_bits}
+use Rattle.std.specs.Prelude.{ℕ, Bool, cond, List, [], ◌∷◌, eqb, ltb, Float, Result, Ok, Err}
 use Rattle.refusal.specs.declared.Refusal.{Refusal}
 use Rattle.refusal.specs.declared.Refusal.TheVariants as Why
+use Rattle.na.specs.Vector.{entry}
 use Rattle.cmd.specs.declared.GlobalPosition.{GlobalPosition}
 use Rattle.cmd.specs.declared.HeadingLine.{HeadingLine}
 use Rattle.cmd.specs.declared.ManeuverCommand.{ManeuverCommand}
@@ -22,38 +21,34 @@ mode_of Cmd.Brake = 1
 mode_of (Cmd.GlobalPosition p) = 2
 mode_of (Cmd.HeadingLine l) = 3
 
--- ---- words
-
--- word i of a command's 13, as floats
-abbrev pub word : List Float → ℕ → Float
-word w i = get_or w i (of_bits binary32 0)
+-- ---- a command from its 13 words, as floats
 
 -- a position with 7 floats: target, then linear and angular speed and acceleration limits
 unfoldable pub position_from : List Float → GlobalPosition
 position_from w = record {
-  target_pose = record { x = word w 0; y = word w 1; z = word w 2 };
-  max_linear_vel = word w 3;
-  max_angular_vel = word w 4;
-  max_linear_acc = word w 5;
-  max_angular_acc = word w 6;
+  target_pose = record { x = entry w 0; y = entry w 1; z = entry w 2 };
+  max_linear_vel = entry w 3;
+  max_angular_vel = entry w 4;
+  max_linear_acc = entry w 5;
+  max_angular_acc = entry w 6;
 }
 
 -- a line with 13: heading, start, direction, line speed, six limits, threshold
 unfoldable pub line_from : List Float → HeadingLine
 line_from w = record {
-  global_theta = word w 0;
-  start_x = word w 1;
-  start_y = word w 2;
-  dir_x = word w 3;
-  dir_y = word w 4;
-  line_velocity = word w 5;
-  max_vel_colinear = word w 6;
-  max_vel_perp = word w 7;
-  max_vel_angular = word w 8;
-  max_accel_colinear = word w 9;
-  max_accel_perp = word w 10;
-  max_accel_angular = word w 11;
-  colinear_start_thresh = word w 12;
+  global_theta = entry w 0;
+  start_x = entry w 1;
+  start_y = entry w 2;
+  dir_x = entry w 3;
+  dir_y = entry w 4;
+  line_velocity = entry w 5;
+  max_vel_colinear = entry w 6;
+  max_vel_perp = entry w 7;
+  max_vel_angular = entry w 8;
+  max_accel_colinear = entry w 9;
+  max_accel_perp = entry w 10;
+  max_accel_angular = entry w 11;
+  colinear_start_thresh = entry w 12;
 }
 
 -- the command of a mode number and its words

@@ -45,6 +45,7 @@ pub enum ManeuverCommand {
 // A block's command words, 24-36, as floats.
 pub type CommandWords = [f32; 13];
 
+// A mode is a number: document 01 has it so, and an enum of the four would ask more of callers.
 pub fn is_mode(mode: u32) -> bool
     ensures { result ≡ is_mode mode }
 {
@@ -95,6 +96,7 @@ impl From<CommandWords> for HeadingLine {
 
 impl ManeuverCommand {
     // The command of a mode number, or refusal 4. Words that its mode does not use are not read.
+    // A number and no enum, as document 01 has it: any that is no mode is answered too, by 4.
     #[tactic(auto, unfolding(crate::specs::Command::command_from))]
     pub fn from_words(mode: u32, w: CommandWords) -> Result<ManeuverCommand, Refusal>
         ensures { (result ≡ command_from mode w) × (number_of result ≡ refusal_of mode) }

@@ -21,6 +21,7 @@ pub struct ControlContext {
     pub divergence: TrackingDivergenceState,
     pub pose_pid: PidMemory,
     pub state_estimate: Vector6f,
+    // A number, as document 01 has modes: plan compares it with the number of its call.
     pub prev_mode: u32,
     pub wheels_disabled: bool,
 }

@@ -11,6 +11,7 @@ use na::Vector6f;
 use plan_answer::PlanAnswer;
 
 // Plan's answer, beside the context as plan leaves it.
+// Both by value, no `&mut` and no pair: document 01 has an answer struct beside the new state.
 #[derive(Clone, Copy)]
 pub struct Decided {
     pub answer: PlanAnswer,
@@ -18,6 +19,8 @@ pub struct Decided {
 }
 
 // Plan sets the estimate and decides on the command.
+// The mode is a number, as document 01 has it; what is no mode, body_controller refuses with 4.
+// Plan's input but for its words and its mark, which are spent by now: no struct for this call alone.
 #[tactic(auto, unfolding(crate::specs::Plan::decided_on))]
 pub fn decide_on(
     context: ControlContext,

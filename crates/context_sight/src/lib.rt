@@ -12,6 +12,7 @@ use setpoints::EMPTY_PID;
 use vision::VisionAnswer;
 
 // The outcome, beside the context as sight leaves it.
+// Both by value, no `&mut` and no pair: document 01 has an answer struct beside the new state.
 #[derive(Clone, Copy)]
 pub struct Seen {
     pub action: GateAction,
@@ -19,6 +20,7 @@ pub struct Seen {
 }
 
 // Sight enables the wheels; where its outcome overwrites, both memories are dropped.
+// Three values from three places, handed on to the gate: a struct would only be taken apart there.
 #[tactic(auto, unfolding(crate::specs::Sight::seen, setpoints::specs::Setpoints::empty_pid, na::specs::Vector::zeros3))]
 pub fn see(
     context: ControlContext,

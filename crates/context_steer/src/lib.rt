@@ -13,6 +13,7 @@ use setpoints::{ManeuverSetpoints, ZERO_SETPOINTS};
 use tracking::{TrackingAnswer, calc_tracking_setpoints};
 
 // Setpoints, beside the context as steer leaves it.
+// Both by value, no `&mut` and no pair: document 01 has an answer struct beside the new state.
 #[derive(Clone, Copy)]
 pub struct Tracked {
     pub setpoints: ManeuverSetpoints,
@@ -51,6 +52,7 @@ fn recover(context: ControlContext, wheel_vel_meas: Vector4f) -> ControlContext
 }
 
 // Setpoints, then recovery. After tracking the next sample is held, and the command is the previous one.
+// Three parts of steer's input, and not all of it: its rotation would bring the matrices here.
 #[tactic(auto, unfolding(crate::specs::Steer::steered, crate::specs::Steer::followed, setpoints::specs::Setpoints::zero_setpoints, na::specs::Vector::zeros3, crate::specs::Steer::tracked))]
 pub fn steer(
     context: ControlContext,

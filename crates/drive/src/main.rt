@@ -13,6 +13,7 @@ use std::io;
 const TURNS: u32 = 131_073;
 
 fn main(rt: HostRuntime) -> io::Result<()> {
+    // Arrays, since memory is fixed: the first n bytes of one were read, the first len of the other go out.
     let mut buf = [0; 65536];
     let mut out = [0; 65536];
     let mut pass = Pass::Empty;
@@ -25,6 +26,7 @@ fn main(rt: HostRuntime) -> io::Result<()> {
             break;
         }
     }
+    // The first len bytes are the line, as above.
     let mut line = [0; 128];
     let len = write_last(pass, &mut line);
     rt.write_all(&line[..len])

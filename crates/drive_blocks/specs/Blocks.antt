@@ -1,5 +1,6 @@
 -- What a block makes of a pass, and its line: document 01, 'When a call is turned away' (blocks) and 'Cases' (program `drive`). Assumes nothing.
 use Rattle.std.specs.Prelude.{cond, List, ℕ, eqb, Result, Ok, Err}
+use Rattle.std.specs.Result.{result_and, result_map_both}
 use Rattle.refusal.specs.declared.Refusal.{Refusal}
 use Rattle.refusal.specs.declared.Refusal.TheVariants as Why
 use Rattle.refusal.specs.Refusal.{refusal_number}
@@ -16,26 +17,16 @@ use Rattle.tick_calls.specs.Tick.{ticked}
 
 -- a tick on the block's inputs: its line, and its controller for the pass
 unfoldable pub ticked_on : BodyController → TickBlock → Driven
-ticked_on c b = let t = ticked c b.sight b.plan b.steer b.finish in record { line = t.line; pass = Driving t.controller }
-
--- the drive's own controller, where the block comes in order
-abbrev pub in_order : Result (Unit {0}) Refusal → BodyController → Result BodyController Refusal
-in_order (Ok u) c = Ok c
-in_order (Err r) c = Err r
+ticked_on c b = let t = ticked c b.inputs in record { line = t.line; pass = Driving t.controller }
 
 -- the controller that is to drive a block: 9, then 10; the first block's number must be 0, and 'the first accepted block's k makes the controller'
 unfoldable pub driver_of : Pass → TickBlock → Result BodyController Refusal
 driver_of Empty b = cond (eqb b.number 0) (new_of b.tick.k) (Err Why.Order)
-driver_of (Driving c) b = in_order (order_tested b.tick c.choices.tick b.number c.ticks) c
-
--- by that controller
-abbrev pub driven_by : Result BodyController Refusal → TickBlock → Result Driven Refusal
-driven_by (Ok c) b = Ok (ticked_on c b)
-driven_by (Err r) b = Err r
+driver_of (Driving c) b = result_and (order_tested b.tick c.choices.tick b.number c.ticks) (Ok c)
 
 -- by what the block says
 abbrev pub taken_with : Result TickBlock Refusal → Pass → Result Driven Refusal
-taken_with (Ok b) p = driven_by (driver_of p b) b
+taken_with (Ok b) p = result_map_both (λ c. ticked_on c b) (λ r. r) (driver_of p b)
 taken_with (Err r) p = Err r
 
 -- what an accepted block makes of a pass

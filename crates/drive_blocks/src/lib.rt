@@ -16,7 +16,7 @@ use tick_calls::{Ticked, drive_tick};
 fn drive_on(c: BodyController, b: TickBlock) -> Driven
     ensures { result ≡ ticked_on c b }
 {
-    let Ticked { line, controller } = drive_tick(c, b.sight, b.plan, b.steer, b.finish);
+    let Ticked { line, controller } = drive_tick(c, b.inputs);
     Driven {
         line,
         pass: Pass::Driving(controller),

@@ -9,13 +9,14 @@ use line_text::{Line, RefusedLine};
 use tick::{Counts, NO_COUNTS};
 
 // Before its first accepted block, a pass has no controller: that block's k makes it.
+// Of Option's shape, with methods of its own: a struct around an Option would say no more.
 #[derive(Clone, Copy)]
 pub enum Pass {
     Empty,
     Driving(BodyController),
 }
 
-// A block's line, beside the pass as the block leaves it.
+// A block's line, beside the pass as the block leaves it: all goes by value, so one struct has both.
 #[derive(Clone, Copy)]
 pub struct Driven {
     pub line: Line,
@@ -44,6 +45,7 @@ impl Pass {
     }
 
     // A refused block's line; the pass stays.
+    // The refusal is any number of 8 bits: an enum would ask more of whoever writes a line.
     #[tactic(auto, unfolding(crate::specs::Pass::refused_by))]
     pub fn refuse(self, refusal: u8) -> Driven
         ensures { result ≡ refused_by refusal self }

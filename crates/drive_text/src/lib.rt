@@ -11,7 +11,8 @@ use drive_pass::Pass;
 use driven_text::{Written, write_driven};
 
 // Drives a block, and puts its line at the start of buf; what stands behind the line stays.
-#[tactic(auto, using(text_pieces::proofs::Placing::within), unfolding(crate::specs::Written::written, crate::specs::Written::block_text, driven_text::specs::Written::written_behind, driven_text::specs::Written::end_of, driven_text::specs::Written::behind))]
+// Each writer of a line has these clauses: a name for the three would hide which bytes stand where.
+#[tactic(auto, unfolding(crate::specs::Written::written, crate::specs::Written::block_text, driven_text::specs::Written::written_behind, driven_text::specs::Written::end_of, driven_text::specs::Written::behind))]
 pub fn drive_block(pass: Pass, block: &[u8], buf: &mut [u8; 128]) -> Written
     ensures value { result ≡ written pass block.now }
     ensures buf_after { buf.new ≡ block_text pass block.now ++ drop (length (block_text pass block.now)) buf.old }
@@ -22,7 +23,6 @@ pub fn drive_block(pass: Pass, block: &[u8], buf: &mut [u8; 128]) -> Written
 
 // Drives blocks of 512 bytes to their end or to the first refusal, as many as `out` has room for at
 // 128 bytes a line, and puts their text at the start of out; what stands behind it stays.
-#[tactic(auto, unfolding(crate::specs::Batch::batch_into))]
 pub fn drive_batch(pass: Pass, blocks: &[u8], out: &mut [u8]) -> Written
     ensures value { result ≡ answer_of (batch_into out.old pass blocks.now) }
     ensures out_after { out.new ≡ text_of (batch_into out.old pass blocks.now).lines ++ drop result.len out.old }

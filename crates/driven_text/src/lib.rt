@@ -13,7 +13,9 @@ use line_text::{Line, write_line};
 #[derive(Clone, Copy)]
 pub struct Written {
     pub pass: Pass,
+    // Of the caller's bytes: fixed memory, no heap for a String.
     pub len: usize,
+    // A flag and no Err: a refused block leaves line, pass and length as another does.
     pub refused: bool,
 }
 
@@ -24,6 +26,7 @@ fn is_refused(line: Line) -> bool
 }
 
 // Puts a text behind the at bytes that are there; what stands behind it stays.
+// The bytes are the caller's, here and below, with the place where their text ends: no heap.
 fn append(out: &mut [u8], at: usize, text: &[u8])
     requires { at + length text.now ≤ length out.old }
     ensures { out.new ≡ take at out.old ++ text.now ++ drop (at + length text.now) out.old }

@@ -1,13 +1,13 @@
 -- The encoder lag of document 01, 'The plain drive', last paragraph: the `FirstOrderLag` that control_context.rs makes for a tick length.
 -- Assumes nothing.
-use Rattle.std.specs.Prelude.{ℕ, max, true, false, cond, T, pos, Float, Result, Ok, Err}
+use Rattle.std.specs.Prelude.{ℕ, max, true, false, T, pos, Float, Result}
+use Rattle.std.specs.Result.{result_map_both}
 use Rattle.std.specs.Float.{fin, binary32}
 use Rattle.std.specs.Float.Ieee.{of_int, to_unsigned, add, mul, div, lt, of_bits}
 use Rattle.na.specs.Vector.{zeros2}
 use Rattle.params.specs.Params.{enc_lag_k, enc_lag_t_slope, enc_lag_t_horizon, t_min_default}
 use Rattle.refusal.specs.declared.Refusal.{Refusal}
-use Rattle.refusal.specs.declared.Refusal.TheVariants as Why
-use Rattle.tick_length.specs.TickLength.{is_tick_length, micros_of}
+use Rattle.tick_length.specs.TickLength.{tick_length_of, micros_of}
 use Rattle.first_order_lag.specs.declared.FirstOrderLag.{FirstOrderLag}
 
 -- whole microseconds in seconds: the nearest float, times 1e-6
@@ -42,4 +42,4 @@ new_lag k = record {
 
 -- the answer to a k: a lag where k is a tick length's
 unfoldable pub lag_of : ℕ → Result FirstOrderLag Refusal
-lag_of k = cond (is_tick_length k) (Ok (new_lag k)) (Err Why.TickLength)
+lag_of k = result_map_both (λ t. new_lag t.k) (λ r. r) (tick_length_of k)

@@ -12,20 +12,6 @@ use lib.Ieee.Fits.{neg-fits}
 use Rattle.float_bits.specs.Magnitude.{magnitude}
 use Rattle.float_bits.proofs.Words.{equal_number, number_word}
 
--- a magnitude is its own magnitude
-pub magnitude-magnitude : (x : Float) → magnitude (magnitude x) ≡ magnitude x
-unfolding magnitude
-magnitude-magnitude nan = refl
-magnitude-magnitude (inf s) = refl
-magnitude-magnitude (fin s m e) = refl
-
--- a float and its negation have one magnitude
-pub magnitude-neg : (x : Float) → magnitude (neg x) ≡ magnitude x
-unfolding magnitude neg
-magnitude-neg nan = refl
-magnitude-neg (inf s) = refl
-magnitude-neg (fin s m e) = refl
-
 -- only NaN's magnitude is NaN
 pub magnitude-nan : (x : Float) → is_nan (magnitude x) ≡ is_nan x
 unfolding magnitude is_nan

@@ -23,7 +23,7 @@ pub fn to_bits(x: f32) -> u32
     f32_to_bits_with_nan(x)
 }
 
-// fabsf: x without its sign. std's f32::abs tests twice: 4.1 ns, in a chain, to 3.2.
+// fabsf: x without its sign. Not std's f32::abs, which tests twice: 4.1 ns, in a chain, to 3.2.
 #[tactic(auto, using(crate::proofs::Words::equal_number, crate::proofs::Magnitudes::nan_magnitude, crate::proofs::Magnitudes::magnitude_number, crate::proofs::Magnitudes::magnitude_read))]
 pub fn abs(x: f32) -> f32
     ensures { result ≡ magnitude x }

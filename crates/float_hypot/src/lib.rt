@@ -50,7 +50,7 @@ fn hypot_of(a: f32, b: f32) -> f32
     sqrt(a * a + b * b)
 }
 
-// Two numbers, the larger first. Two choices take less time than one exchange.
+// Two numbers, the larger first. By std's max and min it proved, but needs 60 lines more of proof and isn't faster.
 #[tactic(auto, unfolding(crate::specs::Hypot::larger, crate::specs::Hypot::smaller))]
 fn larger_first(p: f32, q: f32) -> (f32, f32)
     ensures { result ≡ (larger p q, smaller p q) }

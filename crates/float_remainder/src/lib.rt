@@ -22,6 +22,7 @@ fn doubled_rest(m: u32, k: u32) -> u32
 }
 
 // x % (2.0 * PI), which is exact, by whole numbers: 2.0 * PI is 13176795 / 2^21. Below 4.0 it is x.
+// No `%`: it calls C's fmodf in a version that a machine may lack, and then no program starts.
 fn rest(x: f32) -> f32
     ensures { result ≡ rem binary32 x tau }
 {

@@ -1,7 +1,7 @@
 -- The root of a significand of 24 digits and an exponent: the digits u of the result are known by two points, the squares of u - 1/2 and u + 1/2, between which the significand lies
 -- (`root_by_points`). u is half of a whole root, rounded up (`points`), or any number that passes one comparison on each side (`near_points`). Assumes nothing.
-use Rattle.std.proofs.Common.{◌≡◌, ℕ, zero, suc, ◌+◌, ◌-◌, ◌*◌, ◌/◌, ◌%◌, ◌^◌, ◌<◌, ◌≤◌, false, not, T, sym, refl, ap, ◌∙◌, subst, le_trans, le_of_eq, lt_of_lt_of_le, lt_of_le_of_lt, mul-le-mul_right, mul_assoc, suc-mul, mul_comm, add-mul, mul-le-mul, mul-lt-mul_of_pos_right, mul-pos, mul-suc, mul-add, mul_left_comm, arith, lit<, lit≤, pow_pos, pow_mono, pow-add, shl_lt}
-use native.Mathlib.Nat.{mul-mul-mul_comm, mul-sub, pow-succ'}
+use Rattle.std.proofs.Common.{◌≡◌, ℕ, zero, suc, ◌+◌, ◌-◌, ◌*◌, ◌/◌, ◌%◌, ◌^◌, ◌<◌, ◌≤◌, false, not, T, sym, refl, ap, ◌∙◌, subst, le_trans, le_of_eq, lt_of_lt_of_le, lt_of_le_of_lt, mul-le-mul_right, mul_assoc, suc-mul, mul_comm, add-mul, mul-le-mul, mul-lt-mul_of_pos_right, mul-pos, mul-suc, mul-add, mul_left_comm, lt_of_not-le, not-le_of_lt, arith, lit<, lit≤, pow_pos, pow_mono, pow-add, shl_lt}
+use native.Mathlib.Nat.{mul-mul-mul_comm, mul-sub, pow-succ', mod-eq_of_lt, le_of_suc-le-suc}
 use lib.Arith.{lt_of_le-ne}
 use lib.Ieee.{Float, binary32, units, nan_bits, of_bits}
 use lib.Ieee.Exact.{HasValue, units_val}
@@ -178,6 +178,33 @@ module _ (m e u : ℕ) (lo : 2 ^ 23 ≤ m) (hi : m < 2 ^ 24) (e-lo : 2 ≤ e) (e
   pub compared_word : of_bits binary32 (e / 2 * 2 ^ 23 + u) ≡ root_of binary32 (m * 2 ^ (e + 23))
   compared_word = sym (root_by_points m e (e % 2) u lo hi refl compared_points e-lo e-hi)
 
--- ---- a digit more for a significand, and one less for its exponent
-pub digit_gained : (m e w : ℕ) → 0 < e → m * 2 ^ (e + 23) ≡ w → m * 2 * 2 ^ (e - 1 + 23) ≡ w
-digit_gained m e w pos h = mul_assoc m 2 (2 ^ (e - 1 + 23)) ∙ ap (λ (x : ℕ). m * x) (sym (pow-succ' 2 (e - 1 + 23)) ∙ ap (λ (x : ℕ). 2 ^ x) (omega arith)) ∙ h
+-- ---- k digits more for a significand, and k less for its exponent
+pub digit_gained : (m k e w : ℕ) → k ≤ e → m * 2 ^ (e + 23) ≡ w → m * 2 ^ k * 2 ^ (e - k + 23) ≡ w
+digit_gained m k e w most h =
+    let sum : k + (e - k + 23) ≡ e + 23 = omega arith in
+    mul_assoc m (2 ^ k) (2 ^ (e - k + 23)) ∙ ap (λ (x : ℕ). m * x) (sym (pow-add 2 k (e - k + 23)) ∙ ap (λ (x : ℕ). 2 ^ x) sum) ∙ h
+
+-- a number b below 2 ^ 24, whose first digit is worth 2 ^ j, is brought to 24 digits by 23 - j more
+pub first_digit : (j : ℕ) → 2 ^ j < 2 ^ 24 → j ≤ 23
+first_digit j h = le_of_suc-le-suc (lt_of_not-le (λ (g : 24 ≤ j). not-le_of_lt h (pow_mono g)))
+
+module _ (b j : ℕ) (lo : 2 ^ j ≤ b) (next : b < 2 * 2 ^ j) (hi : b < 2 ^ 24) where
+  digits : 2 ^ j * 2 ^ (23 - j) ≡ 2 ^ 23
+  digits =
+      let sum : j + (23 - j) ≡ 23 = omega (arith, first_digit j (lt_of_le_of_lt lo hi)) in
+      sym (pow-add 2 j (23 - j)) ∙ ap (λ (x : ℕ). 2 ^ x) sum
+
+  least : 2 ^ 23 ≤ b * 2 ^ (23 - j)
+  least = le_trans (le_of_eq (sym digits)) (mul-le-mul_right (2 ^ (23 - j)) lo)
+
+  most : b * 2 ^ (23 - j) < 2 ^ 24
+  most = lt_of_lt_of_le (mul-lt-mul_of_pos_right next (pow_pos (23 - j))) (le_of_eq (mul_assoc 2 (2 ^ j) (2 ^ (23 - j)) ∙ ap (λ (x : ℕ). 2 * x) digits))
+
+  whole : b * 2 ^ (23 - j) % 2 ^ 32 ≡ b * 2 ^ (23 - j)
+  whole = mod-eq_of_lt (lt_of_lt_of_le most (lit≤ tt))
+
+  pub brought : (2 ^ 23 ≤ b * 2 ^ (23 - j) % 2 ^ 32) × (b * 2 ^ (23 - j) % 2 ^ 32 < 2 ^ 24)
+  brought = rw whole (least, most)
+
+  pub brought_word : root_of binary32 (b * 2 ^ (23 - j) % 2 ^ 32 * 2 ^ (126 - (23 - j) + 23)) ≡ root_of binary32 (b * 2 ^ 149)
+  brought_word = ap (root_of binary32) (ap (λ (x : ℕ). x * 2 ^ (126 - (23 - j) + 23)) whole ∙ digit_gained b (23 - j) 126 (b * 2 ^ 149) (omega arith) refl)

@@ -1,6 +1,6 @@
 -- `whole_root n` is the largest s with s * s ≤ n: its square is at most n, and that of the next number is above n (`whole_root_lem`).
 -- Squares are in the order of their roots (`root_lt`). Assumes nothing.
-use Rattle.std.proofs.Common.{◌≡◌, ℕ, zero, suc, ◌+◌, ◌*◌, ◌/◌, ◌^◌, ◌<◌, ◌≤◌, Bool, true, false, cond, not, T, leb, sym, ap, ◌∙◌, subst, zero-le, le_trans, le_of_eq, lt_of_lt_of_le, lt_of_le_of_lt, zero-lt-suc, suc-mul, mul_comm, div-lt_iff_lt-mul, mul-le-mul, pow-suc, lt_of_not-le, le-div_iff_mul-le, mul-suc, not-le_of_lt, arith, lit≤, leb→le}
+use Rattle.std.proofs.Common.{◌≡◌, ℕ, zero, suc, ◌+◌, ◌*◌, ◌/◌, ◌^◌, ◌<◌, ◌≤◌, Bool, true, false, cond, not, T, leb, sym, ap, ◌∙◌, subst, zero-le, le_trans, le_of_eq, lt_of_lt_of_le, zero-lt-suc, suc-mul, mul_comm, div-lt_iff_lt-mul, mul-le-mul, pow-suc, lt_of_not-le, le-div_iff_mul-le, mul-suc, not-le_of_lt, arith, lit≤, leb→le}
 use native.Mathlib.Nat.{mul-mul-mul_comm, pow-le-pow_left}
 use lib.Dec.{nleb→lt}
 use lib.Ieee.{size}
@@ -20,10 +20,6 @@ square_lt a b h = lt_of_lt_of_le next (mul-le-mul h h)
   where
     next : a * a < suc a * suc a
     next = simp (suc-mul, mul-suc) (omega arith)
-
--- what has a square above another number is above 0
-pub square_pos : (n r : ℕ) → n < r * r → 0 < r
-square_pos n r h = root_lt 0 r (lt_of_le_of_lt zero-le h)
 
 pub double_square : (a : ℕ) → 2 * a * (2 * a) ≡ a * a * 4
 double_square a = mul-mul-mul_comm 2 a 2 a ∙ mul_comm 4 (a * a)

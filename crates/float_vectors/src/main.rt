@@ -11,11 +11,12 @@ use full_read::read_full;
 use std::fs::File;
 use std::io;
 use tally::Tally;
-use vector_run::report::line;
+use vector_run::report::write_line;
 
 // Reads one block of a list, and adds its records and mismatches to `tally`.
 fn run_block<O: Operation>(rt: &HostRuntime, list: &mut File, tally: Tally) -> io::Result<Tally> {
-    let mut block = [0; 8192]; // 1024 records
+    // 1024 records. An array, since memory is fixed: its first n bytes are what was read.
+    let mut block = [0; 8192];
     let n = read_full(list, &mut block)?;
     let found = record::mismatches::<O>(&block[..n]);
     report::show::<O>(rt, &block[..n], tally)?;
@@ -25,8 +26,7 @@ fn run_block<O: Operation>(rt: &HostRuntime, list: &mut File, tally: Tally) -> i
     })
 }
 
-// Reads a list to its end. Nothing says that a file ends, so the loop has as many turns as no run
-// uses up.
+// Reads a list to its end, in as many turns as no run uses up, since nothing says that a file ends.
 fn run_list<O: Operation>(rt: &HostRuntime, list: &mut File) -> io::Result<Tally> {
     let mut tally = Tally::new();
     for _ in 0..u64::MAX {
@@ -39,18 +39,13 @@ fn run_list<O: Operation>(rt: &HostRuntime, list: &mut File) -> io::Result<Tally
     Ok(tally)
 }
 
-// Prints a list's line.
-fn print_line(rt: &HostRuntime, name: &str, tally: Tally) -> io::Result<()> {
-    let mut text = [0u8; 80];
-    let n = line(tally, &mut text);
-    rt.print(name)?;
-    rt.write_all(&text[..n])
-}
-
 // Runs the list in the file `name`, and prints its line.
 fn run<O: Operation>(rt: &HostRuntime, name: &str) -> io::Result<()> {
     match File::open(rt, name) {
-        Ok(mut list) => print_line(rt, name, run_list::<O>(rt, &mut list)?),
+        Ok(mut list) => {
+            let tally = run_list::<O>(rt, &mut list)?;
+            write_line(&mut io::writer(rt), name, tally)
+        }
         Err(_) => println!(rt; "{name} cannot be opened"),
     }
 }

@@ -14,6 +14,7 @@ fn show_record<O: Operation>(rt: &HostRuntime, record: Record) -> io::Result<()>
 
 // Shows the block's mismatches, the first ones of its list; `before` has those of earlier blocks.
 pub(crate) fn show<O: Operation>(rt: &HostRuntime, block: &[u8], before: Tally) -> io::Result<()> {
+    // The chain of `mismatches` again: its type has closures in it, so no function can hand it out.
     let mismatches = (0..block.len() / 8)
         .map(|i| Record::at(block, i))
         .filter(|record| record.is_mismatch::<O>());

@@ -18,6 +18,7 @@ pub enum VisionGateState {
 }
 
 // What a tick makes of the gate.
+// Both by value, no `&mut` and no pair: document 01 has an answer struct beside the new state.
 #[derive(Clone, Copy)]
 pub struct Judgement {
     pub action: GateAction,
@@ -81,6 +82,7 @@ fn judge_tracking(t: f32, dist: f32, dt: f32) -> Judgement
 
 impl VisionGateState {
     // The judgement of one tick. Without a sighting the radius of a tracking gate grows on.
+    // Three values from three places, handed on to the gate: a struct would only be taken apart there.
     #[tactic(auto, unfolding(crate::specs::Gate::judged, crate::specs::Gate::sighting_judged, crate::specs::Gate::quiet, crate::specs::Gate::distance))]
     pub fn judge(self, sighting: Option<Vector3f>, predicted: Vector6f, dt: f32) -> Judgement
         ensures { result ≡ judged self sighting predicted dt }

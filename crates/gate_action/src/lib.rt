@@ -26,7 +26,7 @@ pub enum GateAction {
 }
 
 impl GateAction {
-    // Document 01's letter.
+    // Document 01's letter. Not `as`: the enum's own numbers are those of oracle/README.md.
     pub fn letter(self) -> u8
         ensures { result ≡ letter_of self }
     {

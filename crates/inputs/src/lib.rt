@@ -10,7 +10,7 @@ use na::{Vector3f, Vector4f, Vector6f};
 #[derive(Clone, Copy)]
 pub struct SightInput {
     pub vision_pose_meas: Vector3f,
-    // Whether there is a sighting.
+    // Whether there is a sighting. No Option of the pose: the measurement hands it on either way.
     pub vision_update: bool,
     pub wheel_vel_meas: Vector4f,
     pub imu_gyro_theta_meas: f32,
@@ -24,8 +24,10 @@ pub struct PlanInput {
     // The estimator's new estimate.
     pub state_estimate: Vector6f,
     pub halt: bool,
+    // A number, as the scope paper (document 01) names it: any that is no mode is refused, by 4.
     pub mode: u32,
     pub words: CommandWords,
+    // The estimator's mark beside the estimate, as document 01 has plan's inputs.
     pub estimator_failed: bool,
 }
 
@@ -39,6 +41,7 @@ pub struct SteerInput {
     // By the estimate's heading.
     pub heading: Rotation,
     pub stop: bool,
+    // The planner's mark, as document 01 has steer's inputs: the samples stand either way.
     pub planner_failed: bool,
 }
 
@@ -49,4 +52,13 @@ pub struct FinishInput {
     pub twist2wheel: Matrix4x3,
     pub accel2wheel: Matrix4x3,
     pub friction_force_local: Vector3f,
+}
+
+// What a tick's four calls take, each its own.
+#[derive(Clone, Copy)]
+pub struct TickInput {
+    pub sight: SightInput,
+    pub plan: PlanInput,
+    pub steer: SteerInput,
+    pub finish: FinishInput,
 }

@@ -2,17 +2,14 @@
 -- Assumes nothing.
 use Rattle.std.specs.Prelude.{ℕ, zero, suc, Float}
 use Rattle.std.specs.Float.{binary32}
-use Rattle.std.specs.Float.Ieee.{of_bits, add, sub, mul, div}
+use Rattle.std.specs.Float.Ieee.{add, sub, mul, div}
 use Rattle.float_bits.specs.Magnitude.{magnitude}
+use Rattle.na.specs.Vector.{one_float}
 use Rattle.lag_axis.specs.declared.Axis.{Axis}
-
--- 1.0
-abbrev pub one : Float
-one = of_bits binary32 0x3f80_0000
 
 -- 1 / T_eff(u), where T_eff(u) = t_slope * |u| + t_min
 unfoldable pub one_over_t : Axis → Float → Float
-one_over_t s u = div binary32 one (add binary32 (mul binary32 s.t_slope (magnitude u)) s.t_min)
+one_over_t s u = div binary32 one_float (add binary32 (mul binary32 s.t_slope (magnitude u)) s.t_min)
 
 -- `step`: the state moves by 1 / T_eff * dt * (K * u - state)
 unfoldable pub axis_step : Axis → Float → Float
@@ -32,5 +29,5 @@ unfoldable pub axis_invert : Axis → Float → Float
 axis_invert s desired =
     let one_over = one_over_t s desired in
     let a = mul binary32 (mul binary32 s.dt s.k) one_over in
-    let target = sub binary32 desired (mul binary32 s.state (sub binary32 one (mul binary32 s.dt one_over))) in
-    iterated s.n_steps (lag_turn (sub binary32 one a) target) desired
+    let target = sub binary32 desired (mul binary32 s.state (sub binary32 one_float (mul binary32 s.dt one_over))) in
+    iterated s.n_steps (lag_turn (sub binary32 one_float a) target) desired

@@ -12,6 +12,7 @@ use params::{
 };
 
 // A vector within its bounds, and document 01's clamp mark: an entry is not equal to the one given.
+// A mark and no Result: the value counts either way.
 #[derive(Clone, Copy)]
 pub struct Clamped {
     pub value: Vector3f,
@@ -19,7 +20,6 @@ pub struct Clamped {
 }
 
 // NaN stays, and is marked: it is not equal to itself.
-#[tactic(auto, unfolding(crate::specs::Limits::clamped_to))]
 fn clamp_to(linear: f32, angular: f32, v: Vector3f) -> Clamped
     ensures { result ≡ clamped_to linear angular v }
 {
@@ -34,6 +34,7 @@ fn clamp_to(linear: f32, angular: f32, v: Vector3f) -> Clamped
     }
 }
 
+// Two names, here and below, as document 01 has two clamps: no caller can exchange their bounds.
 #[tactic(auto, unfolding(crate::specs::Limits::twist_clamped))]
 pub fn clamp_twist(body_twist: Vector3f) -> Clamped
     ensures { result ≡ twist_clamped body_twist }

@@ -14,8 +14,8 @@ use wheels_text::push_wheels;
 // How many bytes hold any line.
 pub const LINE: usize = 128;
 
-// What ends a tick's line: its wheel speeds, or the refusal that ended the tick. (A refusal is any number
-// of 8 bits here and below: an enum of refusals would ask more of whoever writes a line.)
+// What ends a tick's line: its wheel speeds, or the refusal that ended the tick.
+// No Result: its error would be a number of 8 bits, since an enum of refusals would ask more of callers.
 #[derive(Clone, Copy)]
 pub enum Ending {
     Wheels(Vector4f),
@@ -26,6 +26,7 @@ pub enum Ending {
 #[derive(Clone, Copy)]
 pub struct TickLine {
     pub number: u32,
+    // Any byte: an enum of outcomes would ask more of callers.
     pub letter: u8,
     pub active: bool,
     pub recovering: bool,
@@ -33,6 +34,7 @@ pub struct TickLine {
 }
 
 // The number that the block's tick would have had, and why there was none.
+// Any number of 8 bits: an enum of refusals would ask more of callers.
 #[derive(Clone, Copy)]
 pub struct RefusedLine {
     pub number: u32,
@@ -40,6 +42,7 @@ pub struct RefusedLine {
 }
 
 // A line of the text but the last.
+// No Result: it is one of two kinds of line, and neither is an error.
 #[derive(Clone, Copy)]
 pub enum Line {
     Tick(TickLine),
@@ -47,6 +50,8 @@ pub enum Line {
 }
 
 // Puts the line at the start of buf, and answers how long it is. (`Within` is what `&buf[..r]` asks.)
+// A length beside the caller's bytes: memory is fixed, with no heap for a String.
+// Each writer of a line has these clauses: a name for the three would hide which bytes stand where.
 #[tactic(auto, using(crate::proofs::Bound::line_kept))]
 pub fn write_line(buf: &mut [u8; 128], line: Line) -> usize
     ensures value { result ≡ length (line_text line) }
@@ -92,7 +97,7 @@ fn push_refused<const N: usize>(text: &mut Text<N>, f: RefusedLine)
 }
 
 // What ends a tick's line: the wheel speeds, or `E` and the refusal.
-#[tactic(auto, using(text_pieces::proofs::Growing::growing), unfolding(crate::specs::Text::ending_text, crate::specs::Text::failed_text))]
+#[tactic(auto, unfolding(crate::specs::Text::ending_text, crate::specs::Text::failed_text))]
 fn push_ending<const N: usize>(text: &mut Text<N>, ending: Ending)
     ensures { text.new ≡ take N (text.old ++ ending_text ending) }
 {

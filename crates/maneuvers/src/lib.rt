@@ -12,14 +12,16 @@ use na::Vector6f;
 use plan_answer::PlanAnswer;
 
 // An answer, beside the memory and the previous mode that plan leaves.
+// Both by value, no `&mut` and no pair: document 01 has an answer struct beside the new state.
 #[derive(Clone, Copy)]
 pub struct Decision {
     pub answer: PlanAnswer,
     pub memory: Memory,
+    // A number, as in `decide`.
     pub prev_mode: u32,
 }
 
-// A changed mode drops trajectory and previous command.
+// A changed mode drops trajectory and previous command. Modes are numbers, as in `decide`.
 #[tactic(auto, unfolding(crate::specs::Plan::in_mode))]
 fn in_mode(memory: Memory, mode: u32, prev_mode: u32) -> Memory
     ensures { result ≡ in_mode memory mode prev_mode }
@@ -53,6 +55,8 @@ fn maneuver_answer(
 }
 
 // The one decision over mode, halt, recovery and vision.
+// The modes are numbers: document 01 has a match on the mode number with ranges.
+// Eight parameters from three places: a struct of them would be made for this call alone.
 #[tactic(auto, unfolding(crate::specs::Plan::maneuver_answer, crate::specs::Plan::decided, crate::specs::Plan::number_decided, crate::specs::Plan::hold))]
 pub fn decide(
     mode: u32,
@@ -67,18 +71,20 @@ pub fn decide(
     ensures value { result ≡ decided mode halt recovering vision_active cmd memory prev_mode estimate }
     ensures answer_value { answer_number result.answer ≡ number_decided mode halt recovering vision_active cmd memory prev_mode }
 {
-    // A number that is no mode holds too: callers refuse it first, with 4.
-    if halt | recovering | (mode < 2) | !(mode < 4) {
-        return Decision {
+    match mode {
+        2..=3 if !(halt | recovering) => {
+            memory = in_mode(memory, mode, prev_mode);
+            Decision {
+                answer: maneuver_answer(memory, vision_active, cmd, estimate),
+                memory,
+                prev_mode: mode,
+            }
+        }
+        // A number that is no mode holds too: callers refuse it first, with 4.
+        _ => Decision {
             answer: PlanAnswer::Hold,
             memory: Memory::empty(),
             prev_mode: 0,
-        };
-    }
-    memory = in_mode(memory, mode, prev_mode);
-    Decision {
-        answer: maneuver_answer(memory, vision_active, cmd, estimate),
-        memory,
-        prev_mode: mode,
+        },
     }
 }

@@ -5,6 +5,7 @@ ghost use Rattle.std.specs.Prelude.{◌≡◌};
 ghost use Rattle.marks_text.specs.Marks.{marks_text};
 
 // The outcome's letter, and the two marks, each behind a space.
+// Any byte for the letter: an enum of outcomes would ask more of callers.
 pub fn marks(letter: u8, active: bool, recovering: bool) -> [u8; 6]
     ensures { result ≡ marks_text letter active recovering }
 {

@@ -1,16 +1,11 @@
 -- Rotation by a given cosine and sine, document 01, 'Stand-ins'. Assumes nothing.
-use Rattle.std.specs.Prelude.{[], ◌∷◌, Float}
-use Rattle.std.specs.Float.{binary32}
-use Rattle.std.specs.Float.Ieee.{neg, of_bits}
+use Rattle.std.specs.Prelude.{[], ◌∷◌}
+use Rattle.std.specs.Float.Ieee.{neg}
 use Rattle.na.specs.declared.Vector3f.{Vector3f}
 use Rattle.matrices.specs.declared.matrix.Matrix.{Matrix}
 use Rattle.matrices.specs.declared.rotation.Rotation.{Rotation}
-use Rattle.na.specs.Vector.{zero_float, entries3, vector3_of}
+use Rattle.na.specs.Vector.{zero_float, one_float, entries3, vector3_of}
 use Rattle.matrices.specs.Matrix.{product_of}
-
--- 1.0
-abbrev pub one_float : Float
-one_float = of_bits binary32 0x3f80_0000
 
 -- rows (c, -s, 0), (s, c, 0), (0, 0, 1)
 unfoldable pub z_rotation : Rotation → Matrix 3 3
@@ -25,6 +20,6 @@ z_rotation r = record {
 unfoldable pub to_global : Rotation → Vector3f → Vector3f
 to_global r v = vector3_of (product_of (z_rotation r) (entries3 v))
 
--- the same with s negated
+-- to global by the opposite angle: the same cosine, the sine negated
 unfoldable pub to_local : Rotation → Vector3f → Vector3f
 to_local r v = to_global (record { cos = r.cos; sin = neg r.sin }) v

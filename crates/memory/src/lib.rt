@@ -23,6 +23,7 @@ pub struct Memory {
 
 impl Memory {
     // Trajectory and previous command dropped: the start, and what hold, a changed mode, C, J and a reset leave.
+    // No derived `Default`: the name says what is dropped, and the contract what is left.
     #[tactic(auto, unfolding(crate::specs::Memory::empty_memory))]
     pub fn empty() -> Memory
         ensures { result ≡ empty_memory }

@@ -1,4 +1,4 @@
--- Arrays that `from_fn` makes by a closure that computes h of the index. Assumes nothing.
+-- Arrays that `from_fn` makes by a closure that computes h of the index, or that a loop writes. Assumes nothing.
 use Rattle.std.proofs.Common.{◌≡◌, refl, sym, subst, ◌∙◌, ℕ, zero, suc, ◌+◌, ◌<◌, ◌≤◌, inl, inr, List, map, length, get_or, arith}
 use denote.Param.Members.{Mut, Called}
 use Rattle.std.specs.Array.{IsFromFnResult, IsFromFnResultFrom}
@@ -25,3 +25,11 @@ module _ {F X : Type 0} (g : Mut F (ℕ × Unit {0}) X) (h : ℕ → X) (f : F) 
 pub mapped : {X Y : Type 0} (f : X → Y) (d : X) (xs : List X) (n : ℕ) → length xs ≡ n → map (λ i. f (get_or xs i d)) (range_with_len 0 n) ≡ map f xs
 mapped f d xs n long =
     sym (fill_by_all (λ i. f (get_or xs i d)) (map f xs) n (f d) (length-map xs f ∙ long) (λ i below. get_or-map f xs i d (f d) (omega (arith, below, long))))
+
+-- what a loop leaves that has written h of each of n indices
+pub filled : {X : Type 0} {h : ℕ → X} {xs : List X} {n i : ℕ} (d : X) → length xs ≡ n → ((k : ℕ) → k < i → get_or xs k d ≡ h k) → n ≤ i → xs ≡ map h (range_with_len 0 n)
+filled {h = h} {xs = xs} {n = n} d long each end = fill_by_all h xs n d long (λ k lt. each k (omega (arith, lt, end)))
+
+-- and one that has written f of each element of xs
+pub filled_from : {X Y : Type 0} {ys : List Y} {n i : ℕ} (f : X → Y) (d : X) (e : Y) (xs : List X) → length xs ≡ n → length ys ≡ n → ((k : ℕ) → k < i → get_or ys k e ≡ f (get_or xs k d)) → n ≤ i → ys ≡ map f xs
+filled_from {n = n} f d e xs long long_too each end = filled e long_too each end ∙ mapped f d xs n long

@@ -1,4 +1,5 @@
--- Sums, differences, multiples and dot products of vectors, every step rounded to binary32. Assumes nothing.
+-- 0.0 and 1.0; zeros, sums, differences, multiples and dot products of vectors, every step rounded to binary32; and a vector from its entries, and they from it.
+-- Assumes nothing.
 use Rattle.std.specs.Prelude.{ℕ, List, [], ◌∷◌, get_or, Float}
 use Rattle.std.specs.Float.{binary32}
 use Rattle.std.specs.Float.Ieee.{add, sub, mul, of_bits}
@@ -7,11 +8,15 @@ use Rattle.na.specs.declared.Vector3f.{Vector3f}
 use Rattle.na.specs.declared.Vector4f.{Vector4f}
 use Rattle.na.specs.declared.Vector6f.{Vector6f}
 
--- ---- zeros
+-- ---- 0.0 and 1.0, and zeros
 
 -- 0.0
 abbrev pub zero_float : Float
 zero_float = of_bits binary32 0
+
+-- 1.0
+abbrev pub one_float : Float
+one_float = of_bits binary32 0x3f80_0000
 
 unfoldable pub zeros2 : Vector2f
 zeros2 = record { x = zero_float; y = zero_float }

@@ -5,7 +5,7 @@
 ghost use Rattle.std.specs.Prelude.{◌≡◌};
 ghost use Rattle.na.specs.Vector.{entries2, entries3, entries4, vector2_of, vector3_of, vector4_of, vector6_of};
 
-// No type over the length: the scope paper has each vector a struct of floats by value.
+// No one type, zero or `From` over the length: document 01 has nalgebra's vectors as structs of floats.
 #[derive(Clone, Copy, PartialEq)]
 pub struct Vector2f {
     pub x: f32,
@@ -34,6 +34,7 @@ pub struct Vector6f {
     pub twist: Vector3f,
 }
 
+// Zeros are constants and no derived `Default`, which is a call: other constants are made of them.
 pub const ZEROS_2: Vector2f = Vector2f { x: 0.0, y: 0.0 };
 
 pub const ZEROS_3: Vector3f = Vector3f {

@@ -5,17 +5,18 @@ use lib.Dec.{T}
 use lib.Ieee.{Float, nan, binary32, mul, div, lt, le}
 use Rattle.float_bits.specs.Magnitude.{magnitude}
 use Rattle.float_clamp.proofs.Laws.{clamp_nan, clamp_between_lem}
+use Rattle.na.specs.Vector.{zero_float}
 use Rattle.pid.specs.declared.PidController.{PidController}
 use Rattle.std.specs.Prelude.{Option, None, Some}
-use Rattle.pid.specs.Axis.{zero, anti_jitter, limited, integrated, response, calculated, calculated_with_derivative, new_controller, reset_of}
+use Rattle.pid.specs.Axis.{anti_jitter, limited, integrated, response, calculated, calculated_with_derivative, new_controller, reset_of}
 use Rattle.pid.specs.Axes.{Ask, answer, calculate, calculate_with_derivative, Call, ask, reset, after}
 
 -- ---- the integrated error
 
 -- the bounds of the integrated error enclose zero, and enclose it
 pub record Bounded (c : PidController) : Type 0 where
-  pub below : T (le c.gain.ki_err_min zero)
-  pub above : T (le zero c.gain.ki_err_max)
+  pub below : T (le c.gain.ki_err_min zero_float)
+  pub above : T (le zero_float c.gain.ki_err_max)
   pub ordered : T (le c.gain.ki_err_min c.gain.ki_err_max)
   pub least : T (le c.gain.ki_err_min c.integrated_error)
   pub most : T (le c.integrated_error c.gain.ki_err_max)
@@ -70,14 +71,14 @@ unfolding limited
 limited-nan lo hi = clamp_nan lo hi
 
 -- below a threshold above zero the output is scaled by |error| / threshold
-pub anti_jitter_below : (t out err : Float) → lt zero t ≡ true → lt (magnitude err) t ≡ true → anti_jitter (Some t) out err ≡ div binary32 (mul binary32 out (magnitude err)) t
+pub anti_jitter_below : (t out err : Float) → lt zero_float t ≡ true → lt (magnitude err) t ≡ true → anti_jitter (Some t) out err ≡ div binary32 (mul binary32 out (magnitude err)) t
 unfolding anti_jitter
 anti_jitter_below t out err p q = rw (p, q)
 
 -- from the threshold on it stays
 pub anti_jitter_from : (t out err : Float) → lt (magnitude err) t ≡ false → anti_jitter (Some t) out err ≡ out
 unfolding anti_jitter
-anti_jitter_from t out err q = go (lt zero t)
+anti_jitter_from t out err q = go (lt zero_float t)
   where
     go : (b : Bool) → cond (b && lt (magnitude err) t) (div binary32 (mul binary32 out (magnitude err)) t) out ≡ out
     go true = rw q

@@ -2,21 +2,18 @@
 -- Assumes nothing.
 use Rattle.std.specs.Prelude.{cond, ◌&&◌, Float, Option, None, Some}
 use Rattle.std.specs.Float.{binary32}
-use Rattle.std.specs.Float.Ieee.{of_bits, add, sub, mul, div, lt}
+use Rattle.std.specs.Float.Ieee.{add, sub, mul, div, lt}
 use Rattle.float_bits.specs.Magnitude.{magnitude}
 use Rattle.float_clamp.specs.Clamp.{clamp_between}
+use Rattle.na.specs.Vector.{zero_float}
 use Rattle.params.specs.declared.PidGains.{PidGains}
 use Rattle.pid.specs.declared.PidController.{PidController}
 use Rattle.pid.specs.declared.PidAnswer.{PidAnswer}
 
--- 0.0
-abbrev pub zero : Float
-zero = of_bits binary32 0
-
 -- the output, scaled by |error| / threshold where |error| is below a threshold above zero
 unfoldable pub anti_jitter : Option Float → Float → Float → Float
 anti_jitter None out err = out
-anti_jitter (Some t) out err = cond (lt zero t && lt (magnitude err) t) (div binary32 (mul binary32 out (magnitude err)) t) out
+anti_jitter (Some t) out err = cond (lt zero_float t && lt (magnitude err) t) (div binary32 (mul binary32 out (magnitude err)) t) out
 
 -- the output within the limits, the lower one first, where there are any
 unfoldable pub limited : Option (Float × Float) → Float → Float
@@ -56,7 +53,7 @@ calculated c setpoint process dt =
 
 -- a controller that remembers nothing
 unfoldable pub new_controller : PidGains → Option Float → Option (Float × Float) → PidController
-new_controller g t l = record { gain = g; anti_jitter_thresh = t; output_limits = l; prev_error = zero; integrated_error = zero }
+new_controller g t l = record { gain = g; anti_jitter_thresh = t; output_limits = l; prev_error = zero_float; integrated_error = zero_float }
 
 -- `reset`: only what is remembered changes
 unfoldable pub reset_of : PidController → PidController

@@ -20,6 +20,7 @@ pub struct PidController {
 }
 
 // What a call answers, beside the controller as the call leaves it.
+// Both by value, no `&mut` and no pair: document 01 has an answer struct beside the new state.
 #[derive(Clone, Copy)]
 pub struct PidAnswer {
     pub output: f32,
@@ -69,6 +70,7 @@ impl PidController {
         }
     }
 
+    // The Rust's own parameters, here and below: a struct of them would be made for each call alone.
     #[tactic(auto, unfolding(crate::specs::Axis::calculated, crate::specs::Axis::calculated_with_derivative))]
     pub fn calculate(self, setpoint: f32, process_variable: f32, dt_s: f32) -> PidAnswer
         ensures { result ≡ calculated self setpoint process_variable dt_s }

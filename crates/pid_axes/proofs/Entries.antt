@@ -1,28 +1,29 @@
 -- The entries and the length of the lists that the definitions of pid/specs/Axes.antt make. Assumes nothing.
-use Rattle.std.proofs.Common.{◌≡◌, ◌∙◌, sym, ℕ, zero, suc, ◌+◌, ◌<◌, List, [], ◌∷◌, length, get_or, map, refl, ap, arith, not-suc-le-zero, le_of_suc-le-suc}
-use Rattle.std.proofs.Math.ListN.{set}
-use lib.Ieee.{Float}
+use Rattle.std.proofs.Common.{◌≡◌, ◌∙◌, sym, ℕ, zero, suc, ◌<◌, List, [], ◌∷◌, length, get_or, refl, ap, arith, not-suc-le-zero, le_of_suc-le-suc}
+use lib.Ieee.{Float, nan}
 use Rattle.pid.specs.declared.PidController.{PidController}
 use Rattle.pid.specs.declared.PidAnswer.{PidAnswer}
-use Rattle.pid.specs.Axis.{calculated, calculated_with_derivative}
-use Rattle.pid_axes.proofs.Filled.{filled, filled_rest, filled_next, filled_all}
+use Rattle.pid.specs.Axis as axis
 use Rattle.pid.specs.Axes.{Ask, calculate, calculate_with_derivative, answer, answers, asks, asks_with_derivative}
+use Rattle.pid_axes.specs.declared.PidAxes.{PidAxes}
+use Rattle.pid_axes.specs.declared.PidAxesAnswer.{PidAxesAnswer}
+use Rattle.pid_axes.specs.Axes.{joined, calculated, calculated_with_derivative, EachAnswer}
+use Rattle.pid_axes.proofs.Mapped.{mapped}
 
--- what is read of the answer of axis i
-pub answer_at : {B : Type 0} (f : PidAnswer → B) (parts : List Ask) (cs : List PidController) (i : ℕ) (part : Ask) (c : PidController) (d : B)
-    → i < length parts → i < length cs → get_or (map f (answers parts cs)) i d ≡ f (answer (get_or parts i part) (get_or cs i c))
+answer_at : (parts : List Ask) (cs : List PidController) (i : ℕ) (part : Ask) (c : PidController) (d : PidAnswer)
+    → i < length parts → i < length cs → get_or (answers parts cs) i d ≡ answer (get_or parts i part) (get_or cs i c)
 unfolding answers
-answer_at f [] cs i part c d h k = absurd (not-suc-le-zero h)
-answer_at f (a ∷ parts) [] i part c d h k = absurd (not-suc-le-zero k)
-answer_at f (a ∷ parts) (b ∷ cs) zero part c d h k = refl
-answer_at f (a ∷ parts) (b ∷ cs) (suc i) part c d h k = answer_at f parts cs i part c d (le_of_suc-le-suc h) (le_of_suc-le-suc k)
+answer_at [] cs i part c d h k = absurd (not-suc-le-zero h)
+answer_at (a ∷ parts) [] i part c d h k = absurd (not-suc-le-zero k)
+answer_at (a ∷ parts) (b ∷ cs) zero part c d h k = refl
+answer_at (a ∷ parts) (b ∷ cs) (suc i) part c d h k = answer_at parts cs i part c d (le_of_suc-le-suc h) (le_of_suc-le-suc k)
 
-pub answers_length : {B : Type 0} (f : PidAnswer → B) (parts : List Ask) (cs : List PidController) → length parts ≡ length cs → length (map f (answers parts cs)) ≡ length cs
+answers_length : (parts : List Ask) (cs : List PidController) → length parts ≡ length cs → length (answers parts cs) ≡ length cs
 unfolding answers
-answers_length f [] [] h = refl
-answers_length f [] (c ∷ cs) h = absurd (omega arith)
-answers_length f (a ∷ parts) [] h = refl
-answers_length f (a ∷ parts) (c ∷ cs) h = ap suc (answers_length f parts cs (omega arith))
+answers_length [] [] h = refl
+answers_length [] (c ∷ cs) h = absurd (omega arith)
+answers_length (a ∷ parts) [] h = refl
+answers_length (a ∷ parts) (c ∷ cs) h = ap suc (answers_length parts cs (omega arith))
 
 pub ask_at : (ss vs : List Float) (dt : Float) (i : ℕ) (part : Ask) (s v : Float) → i < length ss → i < length vs → get_or (asks ss vs dt) i part ≡ calculate (get_or ss i s) (get_or vs i v) dt
 ask_at [] vs dt i part s v h k = absurd (not-suc-le-zero h)
@@ -49,43 +50,33 @@ derivatives_length (x ∷ ss) [] ds dt h k = absurd (omega arith)
 derivatives_length (x ∷ ss) (y ∷ vs) [] dt h k = absurd (omega arith)
 derivatives_length (x ∷ ss) (y ∷ vs) (z ∷ ds) dt h k = ap suc (derivatives_length ss vs ds dt (omega arith) (omega arith))
 
--- ---- a loop over the axes: `done` and `zs` are written up to axis i, whose answer is a
+-- ---- an answer whose every entry is an axis's
 
-answer_next : {B : Type 0} (f : PidAnswer → B) (parts : List Ask) (cs : List PidController) (ys zs : List B) (i : ℕ) (part : Ask) (c : PidController) (a : PidAnswer)
-    → length parts ≡ length cs → length ys ≡ length cs → i < length cs → zs ≡ filled (map f (answers parts cs)) ys i
-    → a ≡ answer (get_or parts i part) (get_or cs i c) → set zs i (f a) ≡ filled (map f (answers parts cs)) ys (i + 1)
-answer_next f parts cs ys zs i part c a h k l e r =
-    let long : length (map f (answers parts cs)) ≡ length cs = answers_length f parts cs h in
-    filled_next (map f (answers parts cs)) ys zs i (f a) (f a) (omega arith) (omega arith) e (answer_at f parts cs i part c (f a) (omega arith) l ∙ ap f (sym r))
+joined_is : {n : ℕ} (parts : List Ask) (cs : List PidController) (a : PidAxesAnswer n)
+    → length parts ≡ n → length cs ≡ n → length a.output ≡ n → length a.controller.axes ≡ n
+    → ((i : ℕ) (p : Ask) (d e : PidController) (x : Float) → i < n → record { output = get_or a.output i x; controller = get_or a.controller.axes i e } ≡ answer (get_or parts i p) (get_or cs i d))
+    → a ≡ joined (answers parts cs)
+unfolding joined
+joined_is {n} parts cs a lp lc lo la each =
+    let long : length (answers parts cs) ≡ length cs = answers_length parts cs (lp ∙ sym lc) in
+    let at : (i : ℕ) (d : PidAnswer) (e : PidController) (x : Float) → i < n → record { output = get_or a.output i x; controller = get_or a.controller.axes i e } ≡ get_or (answers parts cs) i d
+    = λ i d e x lt. each i (calculate x x x) e e x lt ∙ sym (answer_at parts cs i (calculate x x x) e d (omega (arith, lt, lp)) (omega (arith, lt, lc))) in
+    let os = mapped (λ b. b.output) (answers parts cs) a.output (omega (arith, long, lc, lo)) (λ k d x lt. ap (λ b. b.output) (at k d d.controller x (omega (arith, lt, long, lc)))) in
+    let es = mapped (λ b. b.controller) (answers parts cs) a.controller.axes (omega (arith, long, lc, la)) (λ k d e lt. ap (λ b. b.controller) (at k d e d.output (omega (arith, lt, long, lc)))) in
+    λ j. record { output = os j; controller = record { axes = es j } }
 
-answers_done : {B : Type 0} (f : PidAnswer → B) (parts : List Ask) (cs : List PidController) (ys zs : List B) (i : ℕ)
-    → length parts ≡ length cs → length ys ≡ length cs → i ≡ length cs → zs ≡ filled (map f (answers parts cs)) ys i → zs ≡ map f (answers parts cs)
-answers_done f parts cs ys zs i h k l e = e ∙ filled_all (map f (answers parts cs)) ys i (answers_length f parts cs h ∙ sym l) (k ∙ sym l)
+pub calculated_is : {n : ℕ} (c : PidAxes n) (s v : List Float) (dt : Float) (a : PidAxesAnswer n)
+    → length s ≡ n → length v ≡ n → length c.axes ≡ n → length a.output ≡ n → length a.controller.axes ≡ n
+    → EachAnswer (λ i b r. PidController × (r ≡ axis.calculated b (get_or s i nan) (get_or v i nan) dt)) n c a → a ≡ calculated c s v dt
+unfolding calculated
+calculated_is c s v dt a ls lv lc lo la each =
+    joined_is (asks s v dt) c.axes a (asks_length s v dt (lv ∙ sym ls) ∙ ls) lc lo la
+    (λ i p d e x lt. (each i d e x lt).1 ∙ ap (λ q. answer q (get_or c.axes i d)) (sym (ask_at s v dt i p nan nan (omega (arith, lt, ls)) (omega (arith, lt, lv)))))
 
-pub calculated_next : {B : Type 0} (f : PidAnswer → B) (cs done : List PidController) (ss vs : List Float) (dt : Float) (ys zs : List B) (i : ℕ) (s v : Float) (c : PidController) (a : PidAnswer)
-    → length ss ≡ length cs → length vs ≡ length cs → length ys ≡ length cs → i < length cs
-    → zs ≡ filled (map f (answers (asks ss vs dt) cs)) ys i → done ≡ filled (map (λ b. b.controller) (answers (asks ss vs dt) cs)) cs i
-    → a ≡ calculated (get_or done i c) (get_or ss i s) (get_or vs i v) dt → set zs i (f a) ≡ filled (map f (answers (asks ss vs dt) cs)) ys (i + 1)
-calculated_next f cs done ss vs dt ys zs i s v c a p q h l e u r =
-    let long : length (asks ss vs dt) ≡ length ss = asks_length ss vs dt (q ∙ sym p) in
-    answer_next f (asks ss vs dt) cs ys zs i (calculate s v dt) c a (long ∙ p) h l e
-    (r ∙ rw (u, filled_rest, ask_at ss vs dt i (calculate s v dt) s v (omega arith) (omega arith)) refl)
-
-pub calculated_done : {B : Type 0} (f : PidAnswer → B) (cs : List PidController) (ss vs : List Float) (dt : Float) (ys zs : List B) (i : ℕ)
-    → length ss ≡ length cs → length vs ≡ length cs → length ys ≡ length cs → i ≡ length cs
-    → zs ≡ filled (map f (answers (asks ss vs dt) cs)) ys i → zs ≡ map f (answers (asks ss vs dt) cs)
-calculated_done f cs ss vs dt ys zs i p q h l e = answers_done f (asks ss vs dt) cs ys zs i (asks_length ss vs dt (q ∙ sym p) ∙ p) h l e
-
-pub derivative_next : {B : Type 0} (f : PidAnswer → B) (cs done : List PidController) (ss vs ds : List Float) (dt : Float) (ys zs : List B) (i : ℕ) (s v d : Float) (c : PidController) (a : PidAnswer)
-    → length ss ≡ length cs → length vs ≡ length cs → length ds ≡ length cs → length ys ≡ length cs → i < length cs
-    → zs ≡ filled (map f (answers (asks_with_derivative ss vs ds dt) cs)) ys i → done ≡ filled (map (λ b. b.controller) (answers (asks_with_derivative ss vs ds dt) cs)) cs i
-    → a ≡ calculated_with_derivative (get_or done i c) (get_or ss i s) (get_or vs i v) (get_or ds i d) dt → set zs i (f a) ≡ filled (map f (answers (asks_with_derivative ss vs ds dt) cs)) ys (i + 1)
-derivative_next f cs done ss vs ds dt ys zs i s v d c a p q o h l e u r =
-    let long : length (asks_with_derivative ss vs ds dt) ≡ length ss = derivatives_length ss vs ds dt (q ∙ sym p) (o ∙ sym p) in
-    answer_next f (asks_with_derivative ss vs ds dt) cs ys zs i (calculate s v dt) c a (long ∙ p) h l e
-    (r ∙ rw (u, filled_rest, derivative_at ss vs ds dt i (calculate s v dt) s v d (omega arith) (omega arith) (omega arith)) refl)
-
-pub derivative_done : {B : Type 0} (f : PidAnswer → B) (cs : List PidController) (ss vs ds : List Float) (dt : Float) (ys zs : List B) (i : ℕ)
-    → length ss ≡ length cs → length vs ≡ length cs → length ds ≡ length cs → length ys ≡ length cs → i ≡ length cs
-    → zs ≡ filled (map f (answers (asks_with_derivative ss vs ds dt) cs)) ys i → zs ≡ map f (answers (asks_with_derivative ss vs ds dt) cs)
-derivative_done f cs ss vs ds dt ys zs i p q o h l e = answers_done f (asks_with_derivative ss vs ds dt) cs ys zs i (derivatives_length ss vs ds dt (q ∙ sym p) (o ∙ sym p) ∙ p) h l e
+pub with_derivative_is : {n : ℕ} (c : PidAxes n) (s v w : List Float) (dt : Float) (a : PidAxesAnswer n)
+    → length s ≡ n → length v ≡ n → length w ≡ n → length c.axes ≡ n → length a.output ≡ n → length a.controller.axes ≡ n
+    → EachAnswer (λ i b r. PidController × (r ≡ axis.calculated_with_derivative b (get_or s i nan) (get_or v i nan) (get_or w i nan) dt)) n c a → a ≡ calculated_with_derivative c s v w dt
+unfolding calculated_with_derivative
+with_derivative_is c s v w dt a ls lv lw lc lo la each =
+    joined_is (asks_with_derivative s v w dt) c.axes a (derivatives_length s v w dt (lv ∙ sym ls) (lw ∙ sym ls) ∙ ls) lc lo la
+    (λ i p d e x lt. (each i d e x lt).1 ∙ ap (λ q. answer q (get_or c.axes i d)) (sym (derivative_at s v w dt i p nan nan nan (omega (arith, lt, ls)) (omega (arith, lt, lv)) (omega (arith, lt, lw)))))

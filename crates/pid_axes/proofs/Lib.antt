@@ -1,4 +1,4 @@
 -- The laws of the PID controller of any number of axes. Assumes nothing.
-pub mod Filled
+mod Mapped
 mod Entries
 pub mod AxesLaws

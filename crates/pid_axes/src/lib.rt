@@ -1,10 +1,11 @@
 // pid.rs, `PidController<N>`: one controller of `pid` for each entry of a vector.
 #![tactic(auto)]
 
-ghost use Rattle.std.specs.Prelude.{◌≡◌};
-ghost use Rattle.pid_axes.specs.Axes.{calculated, calculated_with_derivative, reset_of};
+ghost use Rattle.std.specs.Prelude.{◌≡◌, ℕ, ◌<◌};
+ghost use Rattle.pid.specs.Axis.{calculated as one_calculated, calculated_with_derivative as one_with_derivative};
+ghost use Rattle.pid_axes.specs.Axes.{EachAnswer, entry_at, calculated, calculated_with_derivative, reset_of};
 
-use pid::PidController;
+use pid::{PidAnswer, PidController};
 
 #[derive(Clone, Copy)]
 pub struct PidAxes<const N: usize> {
@@ -12,6 +13,7 @@ pub struct PidAxes<const N: usize> {
 }
 
 // What a call answers, beside the controller as the call leaves it.
+// Both by value, no `&mut` and no pair: document 01 has an answer struct beside the new state.
 #[derive(Clone, Copy)]
 pub struct PidAxesAnswer<const N: usize> {
     pub output: [f32; N],
@@ -19,18 +21,15 @@ pub struct PidAxesAnswer<const N: usize> {
 }
 
 impl<const N: usize> PidAxes<N> {
-    #[tactic(auto, unfolding(crate::specs::Axes::calculated))]
-    pub fn calculate(
-        mut self,
-        setpoint: [f32; N],
-        process_variable: [f32; N],
-        dt_s: f32,
-    ) -> PidAxesAnswer<N>
-        ensures { result ≡ calculated self.entry setpoint.entry process_variable.entry dt_s }
+    // One loop for both calls: axis i answers by `f` of i.
+    fn each<F: Fn(usize, PidController) -> PidAnswer + Drop>(mut self, f: F) -> PidAxesAnswer<N>
+        requires { (i : ℕ) (c : _) → i < N → F.pre f i c }
+        ensures { EachAnswer (F.post f) N self.entry result }
     {
         let mut output = [0.0; N];
+        // By the index: nothing says what a zip over `iter_mut` has written.
         for i in 0..N {
-            let answer = self.axes[i].calculate(setpoint[i], process_variable[i], dt_s);
+            let answer = f(i, self.axes[i]);
             output[i] = answer.output;
             self.axes[i] = answer.controller;
         }
@@ -40,9 +39,25 @@ impl<const N: usize> PidAxes<N> {
         }
     }
 
-    #[tactic(auto, unfolding(crate::specs::Axes::calculated_with_derivative))]
+    // The Rust's own parameters, here and below: a struct of them would be made for each call alone.
+    pub fn calculate(
+        self,
+        setpoint: [f32; N],
+        process_variable: [f32; N],
+        dt_s: f32,
+    ) -> PidAxesAnswer<N>
+        ensures { result ≡ calculated self.entry setpoint.entry process_variable.entry dt_s }
+    {
+        self.each(
+            |i: usize, axis: PidController| -> PidAnswer
+                requires { i < N }
+                ensures { result ≡ one_calculated axis (entry_at setpoint i) (entry_at process_variable i) dt_s }
+            { axis.calculate(setpoint[i], process_variable[i], dt_s) },
+        )
+    }
+
     pub fn calculate_with_derivative(
-        mut self,
+        self,
         setpoint: [f32; N],
         process_variable: [f32; N],
         derivative: [f32; N],
@@ -50,29 +65,26 @@ impl<const N: usize> PidAxes<N> {
     ) -> PidAxesAnswer<N>
         ensures { result ≡ calculated_with_derivative self.entry setpoint.entry process_variable.entry derivative.entry dt_s }
     {
-        let mut output = [0.0; N];
-        for i in 0..N {
-            let answer = self.axes[i].calculate_with_derivative(
-                setpoint[i],
-                process_variable[i],
-                derivative[i],
-                dt_s,
-            );
-            output[i] = answer.output;
-            self.axes[i] = answer.controller;
-        }
-        PidAxesAnswer {
-            output,
-            controller: self,
-        }
+        self.each(
+            |i: usize, axis: PidController| -> PidAnswer
+                requires { i < N }
+                ensures { result ≡ one_with_derivative axis (entry_at setpoint i) (entry_at process_variable i) (entry_at derivative i) dt_s }
+            {
+                axis.calculate_with_derivative(
+                    setpoint[i],
+                    process_variable[i],
+                    derivative[i],
+                    dt_s,
+                )
+            },
+        )
     }
 
-    #[tactic(auto, unfolding(crate::specs::Axes::reset_of))]
     pub fn reset(mut self) -> PidAxes<N>
         ensures { result ≡ reset_of self.entry }
     {
-        for i in 0..N {
-            self.axes[i] = self.axes[i].reset();
+        for axis in self.axes.iter_mut() {
+            *axis = axis.reset();
         }
         self
     }

@@ -11,6 +11,7 @@ use lib.Dec.{T, lit≤, leb, ltb}
 use lib.IntN.{pos}
 use lib.Ieee.{Float, binary32, le, of_int}
 use Rattle.std.specs.Prelude.{Result, Ok, Err}
+use Rattle.std.specs.Result.{result_map_both}
 use Rattle.tick_length.specs.declared.TickLength.{TickLength}
 use Rattle.tick_length.specs.TickLength.{is_tick_length, tick_length_of, seconds_of}
 use Rattle.gate.specs.declared.VisionGateState.{VisionGateState}
@@ -33,7 +34,7 @@ use Rattle.body_controller.specs.Turn.{is_sight}
 use Rattle.tick.specs.Counts.{no_counts, count_list}
 use Rattle.context.specs.Context as Context
 use Rattle.context_sight.specs.Sight as ContextSight
-use Rattle.body_controller.specs.Controller.{started, made_from, new_of, reset_of}
+use Rattle.body_controller.specs.Controller.{started, new_of, reset_of}
 use Rattle.body_controller.specs.Controller as Controller
 use Rattle.call_answers.specs.Sight.{sight_answer}
 use Rattle.body_controller.specs.Sight.{tick_limit, seen_by, sighted, sight_of}
@@ -76,7 +77,7 @@ begun k c e = go (is_tick_length k) refl e
       replies = unfold replies_of driven_replies calls_of in refl;
     })
 
-    go : (b : Bool) → is_tick_length k ≡ b → made_from (cond {A = Result TickLength Refusal} b (Ok (record { k = k })) (Err Why.TickLength)) ≡ Ok c → Followed k [] c
+    go : (b : Bool) → is_tick_length k ≡ b → result_map_both (λ (t : TickLength). started (record { tick = t })) (λ (r : Refusal). r) (cond {A = Result TickLength Refusal} b (Ok (record { k = k })) (Err Why.TickLength)) ≡ Ok c → Followed k [] c
     go true f g = at_start (let same : started (record { tick = record { k = k } }) ≡ c = cc in same) f
     go false f g = let clash : ◌≡◌ {A = ℕ} 1 0 = ap number_of g in absurd (omega (arith, clash))
 

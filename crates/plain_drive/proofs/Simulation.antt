@@ -42,13 +42,13 @@ use Rattle.context_plan.specs.Plan as ContextPlan
 use Rattle.context_steer.specs.Steer as Tracking
 use Rattle.body_controller.specs.declared.Turn.{Turn}
 use Rattle.body_controller.specs.declared.Turn.TheVariants as Turns
-use Rattle.body_controller.specs.Turn.{is_sight, is_plan}
+use Rattle.body_controller.specs.Turn.{is_sight, is_plan, planned_at, steered_at}
 use Rattle.body_controller.specs.Controller.{reset_of, refused}
 use Rattle.call_answers.specs.Sight.{sight_answer}
 use Rattle.body_controller.specs.Sight.{tick_limit, sighted, sight_of}
 use Rattle.body_controller.specs.Plan.{planned, plan_with, plan_of}
 use Rattle.body_controller.specs.Steer as Steer
-use Rattle.body_controller.specs.Finish.{finished, finish_at, finish_of}
+use Rattle.body_controller.specs.Finish.{finished, finish_of}
 use Rattle.plain_drive.specs.Calls.{sight, plan, steer, finish, reset, Reply, accepted}
 use Rattle.plain_drive.specs.PlainDrive as Plain
 use Rattle.plain_drive.specs.EveryList.{sight_reply, plan_reply, steer_reply, finish_reply, drive_turn, drive_of, AllWithin}
@@ -237,10 +237,10 @@ module _ (c : BodyController) (i : SteerInput) where
   steer_follows dt = go c.turn refl
     where
       go : (turn : Turn) → c.turn ≡ turn → OnSteer (drive_of c).turn
-      go Turns.Sight e = subst OnSteer (sym (drive_at c _ e)) (rw (ap (λ (t : Turn). Steer.steer_at t c i) e) (record { reply = refl; state = refl; choices = refl }))
-      go Turns.Plan e = subst OnSteer (sym (drive_at c _ e)) (rw (ap (λ (t : Turn). Steer.steer_at t c i) e) (record { reply = refl; state = refl; choices = refl }))
-      go (Turns.Steer p) e = subst OnSteer (sym (drive_at c _ e)) (rw (ap (λ (t : Turn). Steer.steer_at t c i) e) (planned_follows c p i (Steer.fails_at p i) refl))
-      go (Turns.Finish s) e = subst OnSteer (sym (drive_at c _ e)) (rw (ap (λ (t : Turn). Steer.steer_at t c i) e) (record { reply = refl; state = refl; choices = refl }))
+      go Turns.Sight e = subst OnSteer (sym (drive_at c _ e)) (rw (ap planned_at e) (record { reply = refl; state = refl; choices = refl }))
+      go Turns.Plan e = subst OnSteer (sym (drive_at c _ e)) (rw (ap planned_at e) (record { reply = refl; state = refl; choices = refl }))
+      go (Turns.Steer p) e = subst OnSteer (sym (drive_at c _ e)) (rw (ap planned_at e) (planned_follows c p i (Steer.fails_at p i) refl))
+      go (Turns.Finish s) e = subst OnSteer (sym (drive_at c _ e)) (rw (ap planned_at e) (record { reply = refl; state = refl; choices = refl }))
 
 -- ---- finish
 
@@ -258,7 +258,7 @@ module _ (c : BodyController) (i : FinishInput) where
   finish_follows dt = go c.turn refl
     where
       go : (turn : Turn) → c.turn ≡ turn → OnFinish (drive_of c).turn
-      go Turns.Sight e = subst OnFinish (sym (drive_at c _ e)) (rw (ap (λ (t : Turn). finish_at t c i) e) (record { reply = refl; state = refl; choices = refl }))
-      go Turns.Plan e = subst OnFinish (sym (drive_at c _ e)) (rw (ap (λ (t : Turn). finish_at t c i) e) (record { reply = refl; state = refl; choices = refl }))
-      go (Turns.Steer p) e = subst OnFinish (sym (drive_at c _ e)) (rw (ap (λ (t : Turn). finish_at t c i) e) (record { reply = refl; state = refl; choices = refl }))
-      go (Turns.Finish s) e = subst OnFinish (sym (drive_at c _ e)) (rw (ap (λ (t : Turn). finish_at t c i) e) (finished_follows s))
+      go Turns.Sight e = subst OnFinish (sym (drive_at c _ e)) (rw (ap steered_at e) (record { reply = refl; state = refl; choices = refl }))
+      go Turns.Plan e = subst OnFinish (sym (drive_at c _ e)) (rw (ap steered_at e) (record { reply = refl; state = refl; choices = refl }))
+      go (Turns.Steer p) e = subst OnFinish (sym (drive_at c _ e)) (rw (ap steered_at e) (record { reply = refl; state = refl; choices = refl }))
+      go (Turns.Finish s) e = subst OnFinish (sym (drive_at c _ e)) (rw (ap steered_at e) (finished_follows s))

@@ -199,6 +199,7 @@ on_reset s =
 -- ---- 'Steer'
 
 -- 'A planner failure counts only where plan answered that a new plan is needed'
+-- (written out: it is this section's own rule, and not one that it refers to)
 abbrev pub anew : PlanAnswer → Bool
 anew Hold = false
 anew NoVision = false

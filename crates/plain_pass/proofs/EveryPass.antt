@@ -6,6 +6,7 @@ use mathlib.Core.List.{List, [], ◌∷◌, head-eq_of_cons-eq}
 use lib.Dec.{eqb}
 use Rattle.tick_length.specs.TickLength.{is_tick_length, tick_length_of}
 use Rattle.std.specs.Prelude.{Result, Ok, Err}
+use Rattle.std.specs.Result.{result_and, result_map_both}
 use Rattle.refusal.specs.declared.Refusal.{Refusal}
 use Rattle.refusal.specs.declared.Refusal.TheVariants as Why
 use Rattle.refusal.specs.Refusal.{refusal_number}
@@ -15,9 +16,7 @@ use Rattle.call_answers.specs.declared.Sighted.{Sighted}
 use Rattle.call_answers.specs.declared.Finished.{Finished}
 use Rattle.body_controller.specs.declared.BodyController.{BodyController}
 use Rattle.body_controller.specs.declared.Called.{Called}
-use Rattle.inputs.specs.declared.FinishInput.{FinishInput}
-use Rattle.inputs.specs.declared.PlanInput.{PlanInput}
-use Rattle.inputs.specs.declared.SteerInput.{SteerInput}
+use Rattle.inputs.specs.declared.TickInput.{TickInput}
 use Rattle.tick.specs.Counts.{no_counts, count_list}
 use Rattle.body_controller.specs.Controller.{started, new_of, refused}
 use Rattle.body_controller.specs.Sight.{sight_of}
@@ -37,7 +36,7 @@ use Rattle.drive_pass.specs.declared.Pass.TheVariants.{Empty, Driving}
 use Rattle.drive_pass.specs.Pass.{next_number, counts_of, refused_by}
 use Rattle.tick_calls.specs.Tick as Tick
 use Rattle.tick_calls.specs.Tick.{ended_by, ending_of, then, steered, planned, ticked_with, ticked}
-use Rattle.drive_blocks.specs.Blocks.{ticked_on, in_order, driver_of, driven_by, taken_with, taken, driven_with, driven}
+use Rattle.drive_blocks.specs.Blocks.{ticked_on, driver_of, taken_with, taken, driven_with, driven}
 use Rattle.plain_pass.specs.PlainPass.{ending_number, mark_of, PlainPass, none, at, PlainDriven, reply_after, refusal_in, ended_at, at_finish, at_steer, at_plan, plain_tick, plain_ticks, plain_counts, refused_at, plain_take, plain_read, plain_pass, plain_marks, Passed, marks_of, StandsOn, EveryPass}
 
 -- a controller behind the calls of a pass
@@ -82,53 +81,53 @@ module _ (k number letter : ℕ) where
   unfolding ended_by drive_of
   ended_agrees calls q n b e = record { mark = rw (e, ← stands k calls q.controller b); pass = b }
 
-  finish_agrees : (calls : List Call) (c : BodyController) (f : FinishInput) → Behind k calls c → Agrees (shown (finish_of c f)) (at_finish k calls number letter f)
-  finish_agrees calls c f b = ended_agrees (finish f ∷ calls) (finish_of c f) _ (after k calls c b (finish f) _ _ meets) (ending (finish_of c f).answer ∙ ap refusal_in (replied k calls c b (finish f) _ _ meets))
+  finish_agrees : (calls : List Call) (c : BodyController) (i : TickInput) → Behind k calls c → Agrees (shown (finish_of c i.finish)) (at_finish k calls number letter i)
+  finish_agrees calls c i b = ended_agrees (finish i.finish ∷ calls) (finish_of c i.finish) _ (after k calls c b (finish i.finish) _ _ meets) (ending (finish_of c i.finish).answer ∙ ap refusal_in (replied k calls c b (finish i.finish) _ _ meets))
     where
-      meets : Meets c (finish f) (finish_reply (finish_of c f).answer) (finish_of c f).controller
-      meets = (finish_of c f, refl, refl, refl)
+      meets : Meets c (finish i.finish) (finish_reply (finish_of c i.finish).answer) (finish_of c i.finish).controller
+      meets = (finish_of c i.finish, refl, refl, refl)
 
       ending : (a : Result Finished Refusal) → ending_number (ending_of a) ≡ refusal_in (finish_reply a)
       ending (Ok x) = refl
       ending (Err r) = refl
 
-  steer_agrees : (calls : List Call) (c : BodyController) (s : SteerInput) (f : FinishInput) → Behind k calls c → Agrees (shown (steered c s f)) (at_steer k calls number letter s f)
+  steer_agrees : (calls : List Call) (c : BodyController) (i : TickInput) → Behind k calls c → Agrees (shown (steered c i)) (at_steer k calls number letter i)
   unfolding steered refused
-  steer_agrees calls c s f b = go (steer_of c s).answer refl
+  steer_agrees calls c i b = go (steer_of c i.steer).answer refl
     where
-      meets : Meets c (steer s) (steer_reply (steer_of c s).answer) (steer_of c s).controller
-      meets = (steer_of c s, refl, refl, refl)
+      meets : Meets c (steer i.steer) (steer_reply (steer_of c i.steer).answer) (steer_of c i.steer).controller
+      meets = (steer_of c i.steer, refl, refl, refl)
 
-      go : (a : Result Vector3f Refusal) → (steer_of c s).answer ≡ a → Agrees (shown (then a (steer_of c s).controller (λ (d : BodyController). finish_of d f))) (at_steer k calls number letter s f)
-      go (Ok x) e = rw (sym (replied k calls c b (steer s) _ _ meets) ∙ ap steer_reply e) (finish_agrees (steer s ∷ calls) (steer_of c s).controller f (after k calls c b (steer s) _ _ meets))
-      go (Err r) e = rw (sym (replied k calls c b (steer s) _ _ meets) ∙ ap steer_reply e) (ended_agrees (steer s ∷ calls) (refused r (steer_of c s).controller) _ (after k calls c b (steer s) _ _ meets) refl)
+      go : (a : Result Vector3f Refusal) → (steer_of c i.steer).answer ≡ a → Agrees (shown (then a (steer_of c i.steer).controller (λ (d : BodyController). finish_of d i.finish))) (at_steer k calls number letter i)
+      go (Ok x) e = rw (sym (replied k calls c b (steer i.steer) _ _ meets) ∙ ap steer_reply e) (finish_agrees (steer i.steer ∷ calls) (steer_of c i.steer).controller i (after k calls c b (steer i.steer) _ _ meets))
+      go (Err r) e = rw (sym (replied k calls c b (steer i.steer) _ _ meets) ∙ ap steer_reply e) (ended_agrees (steer i.steer ∷ calls) (refused r (steer_of c i.steer).controller) _ (after k calls c b (steer i.steer) _ _ meets) refl)
 
-  plan_agrees : (calls : List Call) (c : BodyController) (p : PlanInput) (s : SteerInput) (f : FinishInput) → Behind k calls c → Agrees (shown (planned c p s f)) (at_plan k calls number letter p s f)
+  plan_agrees : (calls : List Call) (c : BodyController) (i : TickInput) → Behind k calls c → Agrees (shown (planned c i)) (at_plan k calls number letter i)
   unfolding planned refused
-  plan_agrees calls c p s f b = go (plan_of c p).answer refl
+  plan_agrees calls c i b = go (plan_of c i.plan).answer refl
     where
-      meets : Meets c (plan p) (plan_reply (plan_of c p).answer) (plan_of c p).controller
-      meets = (plan_of c p, refl, refl, refl)
+      meets : Meets c (plan i.plan) (plan_reply (plan_of c i.plan).answer) (plan_of c i.plan).controller
+      meets = (plan_of c i.plan, refl, refl, refl)
 
-      go : (a : Result PlanAnswer Refusal) → (plan_of c p).answer ≡ a → Agrees (shown (then a (plan_of c p).controller (λ (d : BodyController). steered d s f))) (at_plan k calls number letter p s f)
-      go (Ok x) e = rw (sym (replied k calls c b (plan p) _ _ meets) ∙ ap plan_reply e) (steer_agrees (plan p ∷ calls) (plan_of c p).controller s f (after k calls c b (plan p) _ _ meets))
-      go (Err r) e = rw (sym (replied k calls c b (plan p) _ _ meets) ∙ ap plan_reply e) (ended_agrees (plan p ∷ calls) (refused r (plan_of c p).controller) _ (after k calls c b (plan p) _ _ meets) refl)
+      go : (a : Result PlanAnswer Refusal) → (plan_of c i.plan).answer ≡ a → Agrees (shown (then a (plan_of c i.plan).controller (λ (d : BodyController). steered d i))) (at_plan k calls number letter i)
+      go (Ok x) e = rw (sym (replied k calls c b (plan i.plan) _ _ meets) ∙ ap plan_reply e) (steer_agrees (plan i.plan ∷ calls) (plan_of c i.plan).controller i (after k calls c b (plan i.plan) _ _ meets))
+      go (Err r) e = rw (sym (replied k calls c b (plan i.plan) _ _ meets) ∙ ap plan_reply e) (ended_agrees (plan i.plan ∷ calls) (refused r (plan_of c i.plan).controller) _ (after k calls c b (plan i.plan) _ _ meets) refl)
 
-tick_agrees : (k : ℕ) (calls : List Call) (c : BodyController) (b : TickBlock) → Behind k calls c → Agrees (ticked_on c b) (plain_tick k calls b)
+tick_agrees : (k : ℕ) (calls : List Call) (c : BodyController) (b : TickBlock) → Behind k calls c → Agrees (ticked_on c b) (plain_tick k calls b.inputs)
 unfolding ticked_on ticked plain_tick Tick.refused_at
-tick_agrees k calls c b m = go (sight_of c b.sight).answer refl
+tick_agrees k calls c b m = go (sight_of c b.inputs.sight).answer refl
   where
-    meets : Meets c (sight b.sight) (sight_reply (sight_of c b.sight).answer) (sight_of c b.sight).controller
-    meets = (sight_of c b.sight, refl, refl, refl)
+    meets : Meets c (sight b.inputs.sight) (sight_reply (sight_of c b.inputs.sight).answer) (sight_of c b.inputs.sight).controller
+    meets = (sight_of c b.inputs.sight, refl, refl, refl)
 
     ticks : c.ticks ≡ (Plain.driven k calls).ticks
     ticks = unfold drive_of in ap (λ (s : Plain.DriveState). s.ticks) (stands k calls c m)
 
-    go : (a : Result Sighted Refusal) → (sight_of c b.sight).answer ≡ a → (let t = ticked_with a c (sight_of c b.sight).controller b.plan b.steer b.finish in Agrees (record { line = t.line; pass = Driving t.controller }) (plain_tick k calls b))
+    go : (a : Result Sighted Refusal) → (sight_of c b.inputs.sight).answer ≡ a → (let t = ticked_with a c (sight_of c b.inputs.sight).controller b.inputs in Agrees (record { line = t.line; pass = Driving t.controller }) (plain_tick k calls b.inputs))
     go (Ok x) e =
-        rw (sym (replied k calls c m (sight b.sight) _ _ meets) ∙ ap sight_reply e, ← ticks)
-        (plan_agrees k _ _ (sight b.sight ∷ calls) (sight_of c b.sight).controller b.plan b.steer b.finish (after k calls c m (sight b.sight) _ _ meets))
-    go (Err r) e = rw (sym (replied k calls c m (sight b.sight) _ _ meets) ∙ ap sight_reply e) (record { mark = rw ticks; pass = m })
+        rw (sym (replied k calls c m (sight b.inputs.sight) _ _ meets) ∙ ap sight_reply e, ← ticks)
+        (plan_agrees k _ _ (sight b.inputs.sight ∷ calls) (sight_of c b.inputs.sight).controller b.inputs (after k calls c m (sight b.inputs.sight) _ _ meets))
+    go (Err r) e = rw (sym (replied k calls c m (sight b.inputs.sight) _ _ meets) ∙ ap sight_reply e) (record { mark = rw ticks; pass = m })
 
 -- ---- a block
 
@@ -151,30 +150,30 @@ refused_agrees : (n : ℕ) (p : Pass) (q : PlainPass) → Beside p q → Agrees 
 unfolding refused_by
 refused_agrees n p q m = record { mark = rw (ticks_beside p q m); pass = m }
 
--- what a block that says b makes of a pass
-abbrev driven_on : Pass → TickBlock → Driven
-driven_on p b = driven_with (driven_by (driver_of p b) b) p
+-- what a block that says b makes of a pass, by this controller
+abbrev driven_on : Result BodyController Refusal → Pass → TickBlock → Driven
+driven_on d p b = driven_with (result_map_both (λ (c : BodyController). ticked_on c b) (λ (r : Refusal). r) d) p
 
 -- the first block
-first_agrees : (b : TickBlock) → Agrees (driven_on Empty b) (plain_take none b)
+first_agrees : (b : TickBlock) → Agrees (driven_on (driver_of Empty b) Empty b) (plain_take none b)
 unfolding driver_of
 first_agrees b = go (eqb b.number 0)
   where
-    made : (m : Bool) → is_tick_length b.tick.k ≡ m → Agrees (driven_with (driven_by (new_of b.tick.k) b) Empty) (cond m (plain_tick b.tick.k [] b) (refused_at 1 none))
+    made : (m : Bool) → is_tick_length b.tick.k ≡ m → Agrees (driven_on (new_of b.tick.k) Empty b) (cond m (plain_tick b.tick.k [] b.inputs) (refused_at 1 none))
     made true e = unfold new_of tick_length_of in rw e (tick_agrees b.tick.k [] (started (record { tick = record { k = b.tick.k } })) b ([], unfold calls_of in refl, unfold Made new_of tick_length_of in rw e))
     made false e = unfold new_of tick_length_of in rw e (refused_agrees 1 Empty none tt)
 
-    go : (zero : Bool) → Agrees (driven_with (driven_by (cond zero (new_of b.tick.k) (Err Why.Order)) b) Empty) (cond zero (cond (is_tick_length b.tick.k) (plain_tick b.tick.k [] b) (refused_at 1 none)) (refused_at 10 none))
+    go : (zero : Bool) → Agrees (driven_on (cond zero (new_of b.tick.k) (Err Why.Order)) Empty b) (cond zero (cond (is_tick_length b.tick.k) (plain_tick b.tick.k [] b.inputs) (refused_at 1 none)) (refused_at 10 none))
     go true = made (is_tick_length b.tick.k) refl
     go false = refused_agrees 10 Empty none tt
 
 -- a later block
-later_agrees : (k : ℕ) (calls : List Call) (c : BodyController) (b : TickBlock) → Behind k calls c → Agrees (driven_on (Driving c) b) (plain_take (at k calls) b)
+later_agrees : (k : ℕ) (calls : List Call) (c : BodyController) (b : TickBlock) → Behind k calls c → Agrees (driven_on (driver_of (Driving c) b) (Driving c) b) (plain_take (at k calls) b)
 unfolding driver_of
 later_agrees k calls c b m = rw (ap (eqb b.tick.k) (demand3 k m.0 c m.2).tick_length, ap (eqb b.number) (ticks_beside (Driving c) (at k calls) m)) (go (eqb b.tick.k k) (eqb b.number (plain_ticks (at k calls))))
   where
     go : (same next : Bool)
-        → Agrees (driven_with (driven_by (in_order (cond same (cond next (Ok tt) (Err Why.Order)) (Err Why.OtherTickLength)) c) b) (Driving c)) (cond same (cond next (plain_tick k calls b) (refused_at 10 (at k calls))) (refused_at 9 (at k calls)))
+        → Agrees (driven_on (result_and (cond same (cond next (Ok (tt {0})) (Err Why.Order)) (Err Why.OtherTickLength)) (Ok c)) (Driving c) b) (cond same (cond next (plain_tick k calls b.inputs) (refused_at 10 (at k calls))) (refused_at 9 (at k calls)))
     go true true = tick_agrees k calls c b m
     go true false = refused_agrees 10 (Driving c) (at k calls) m
     go false next = refused_agrees 9 (Driving c) (at k calls) m

@@ -7,9 +7,7 @@ use Rattle.tick_length.specs.TickLength.{is_tick_length, seconds_of}
 use Rattle.gate_action.specs.Outcome.{letter_of}
 use Rattle.vision.specs.Vision.{active}
 use Rattle.divergence.specs.Divergence.{is_recovering}
-use Rattle.inputs.specs.declared.FinishInput.{FinishInput}
-use Rattle.inputs.specs.declared.PlanInput.{PlanInput}
-use Rattle.inputs.specs.declared.SteerInput.{SteerInput}
+use Rattle.inputs.specs.declared.TickInput.{TickInput}
 use Rattle.tick.specs.Counts.{count_list}
 use Rattle.plain_drive.specs.Calls.{Call, sight, plan, steer, finish, Reply, outcome, answer, accepted, refused}
 use Rattle.plain_drive.specs.PlainDrive as Plain
@@ -84,26 +82,26 @@ ended_at k calls number letter ending = record {
 }
 
 -- the calls of a block, up to the first that is turned away
-abbrev pub at_finish : ℕ → List Call → ℕ → ℕ → FinishInput → PlainDriven
-at_finish k calls number letter f = ended_at k (finish f ∷ calls) number letter (refusal_in (reply_after k calls (finish f)))
+abbrev pub at_finish : ℕ → List Call → ℕ → ℕ → TickInput → PlainDriven
+at_finish k calls number letter i = ended_at k (finish i.finish ∷ calls) number letter (refusal_in (reply_after k calls (finish i.finish)))
 
-abbrev pub at_steer : ℕ → List Call → ℕ → ℕ → SteerInput → FinishInput → PlainDriven
-at_steer k calls number letter s f =
-    cond (is_refused (reply_after k calls (steer s)))
-    (ended_at k (steer s ∷ calls) number letter (refusal_in (reply_after k calls (steer s))))
-    (at_finish k (steer s ∷ calls) number letter f)
+abbrev pub at_steer : ℕ → List Call → ℕ → ℕ → TickInput → PlainDriven
+at_steer k calls number letter i =
+    cond (is_refused (reply_after k calls (steer i.steer)))
+    (ended_at k (steer i.steer ∷ calls) number letter (refusal_in (reply_after k calls (steer i.steer))))
+    (at_finish k (steer i.steer ∷ calls) number letter i)
 
-abbrev pub at_plan : ℕ → List Call → ℕ → ℕ → PlanInput → SteerInput → FinishInput → PlainDriven
-at_plan k calls number letter p s f =
-    cond (is_refused (reply_after k calls (plan p)))
-    (ended_at k (plan p ∷ calls) number letter (refusal_in (reply_after k calls (plan p))))
-    (at_steer k (plan p ∷ calls) number letter s f)
+abbrev pub at_plan : ℕ → List Call → ℕ → ℕ → TickInput → PlainDriven
+at_plan k calls number letter i =
+    cond (is_refused (reply_after k calls (plan i.plan)))
+    (ended_at k (plan i.plan ∷ calls) number letter (refusal_in (reply_after k calls (plan i.plan))))
+    (at_steer k (plan i.plan ∷ calls) number letter i)
 
-unfoldable pub plain_tick : ℕ → List Call → TickBlock → PlainDriven
-plain_tick k calls b =
-    cond (is_refused (reply_after k calls (sight b.sight)))
-    (record { mark = turned_away (Plain.driven k calls).ticks (refusal_in (reply_after k calls (sight b.sight))); pass = at k calls })
-    (at_plan k (sight b.sight ∷ calls) (Plain.driven k calls).ticks (letter_in (reply_after k calls (sight b.sight))) b.plan b.steer b.finish)
+unfoldable pub plain_tick : ℕ → List Call → TickInput → PlainDriven
+plain_tick k calls i =
+    cond (is_refused (reply_after k calls (sight i.sight)))
+    (record { mark = turned_away (Plain.driven k calls).ticks (refusal_in (reply_after k calls (sight i.sight))); pass = at k calls })
+    (at_plan k (sight i.sight ∷ calls) (Plain.driven k calls).ticks (letter_in (reply_after k calls (sight i.sight))) i)
 
 -- the number that the next tick would have, and the counts
 abbrev pub plain_ticks : PlainPass → ℕ
@@ -120,8 +118,8 @@ refused_at n p = record { mark = turned_away (plain_ticks p) n; pass = p }
 
 -- an accepted block's k makes the drive; 9, then 10
 abbrev pub plain_take : PlainPass → TickBlock → PlainDriven
-plain_take none b = cond (eqb b.number 0) (cond (is_tick_length b.tick.k) (plain_tick b.tick.k [] b) (refused_at 1 none)) (refused_at 10 none)
-plain_take (at k calls) b = cond (eqb b.tick.k k) (cond (eqb b.number (Plain.driven k calls).ticks) (plain_tick k calls b) (refused_at 10 (at k calls))) (refused_at 9 (at k calls))
+plain_take none b = cond (eqb b.number 0) (cond (is_tick_length b.tick.k) (plain_tick b.tick.k [] b.inputs) (refused_at 1 none)) (refused_at 10 none)
+plain_take (at k calls) b = cond (eqb b.tick.k k) (cond (eqb b.number (Plain.driven k calls).ticks) (plain_tick k calls b.inputs) (refused_at 10 (at k calls))) (refused_at 9 (at k calls))
 
 abbrev pub plain_read : Result TickBlock Refusal → PlainPass → PlainDriven
 plain_read (Ok b) p = plain_take p b

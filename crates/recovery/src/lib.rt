@@ -14,6 +14,7 @@ use tracking_limits::{any_exceeds, at_rest};
 use vectors::sub;
 
 // The state after a tick; where `reset` is set, the caller resets the rest too.
+// A mark and no Option: the state counts either way.
 #[derive(Clone, Copy)]
 pub struct RecoveryAnswer {
     pub state: TrackingDivergenceState,

@@ -1,2 +1,3 @@
 -- What the loops over axes keep. Assumes nothing.
+mod Filled
 mod Loops

@@ -5,7 +5,7 @@ use Rattle.std.proofs.Math.Seq.{drop-cons}
 use Rattle.std.proofs.lemmas.List.{drop_all}
 use lib.Ieee.{Float}
 use Rattle.pid.specs.declared.PidController.{PidController}
-use Rattle.pid_axes.proofs.Filled.{filled, filled_rest, filled_next, filled_all}
+use Rattle.rust_vectors.proofs.Filled.{filled, filled_rest, filled_next, filled_all}
 use Rattle.rust_vectors.specs.Memory.{with_memory, with_memories, axis_put, axes_put}
 
 pub put_next : (n i : ℕ) (os : List Float) (cs : List PidController) (ws : List ℕ) (o : Float) (c : PidController) → i < length os → i < length cs

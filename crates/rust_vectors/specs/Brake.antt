@@ -1,5 +1,5 @@
 -- The list of the active brake: the answer to a call, and what is compared after it. Assumes nothing.
-use Rattle.std.specs.Prelude.{ℕ, List, Result, Ok, Err}
+use Rattle.std.specs.Prelude.{ℕ, List, Option, Some, None, Result, Ok, Err}
 use Rattle.na.specs.Vector.{zeros4, entries4, vector4_of}
 use Rattle.refusal.specs.declared.Refusal.{Refusal}
 use Rattle.active_brake.specs.declared.ActiveBrakeController.{ActiveBrakeController}
@@ -7,7 +7,7 @@ use Rattle.active_brake.specs.declared.BrakeAnswer.{BrakeAnswer}
 use Rattle.active_brake.specs.Brake.{brake_of, computed, reset_brake}
 use Rattle.block_words.specs.Word.{word_at}
 use Rattle.block_floats.specs.Floats.{floats_at}
-use Rattle.rust_vectors.specs.Memory.{with_memories, axes_put, unanswered}
+use Rattle.rust_vectors.specs.Memory.{with_memories, axes_put}
 use Rattle.rust_vectors.specs.Kinds.{by_kind2}
 
 -- a call: its kind (0 `compute`, 1 `reset`) and the wheel speeds. A reset's currents are zero.
@@ -18,12 +18,12 @@ answer b s =
     (record { currents = zeros4; controller = reset_brake b })
 
 -- a brake, and what is compared after a call; nothing where k is refused
-abbrev pub step_by : Result ActiveBrakeController Refusal → List ℕ → List ℕ → List ℕ
+abbrev pub step_by : Result ActiveBrakeController Refusal → List ℕ → List ℕ → Option (List ℕ)
 step_by (Ok b) s ws =
     let a = answer (record { pid = record { axes = with_memories 4 0 b.pid.axes ws }; tick = b.tick }) s in
-    axes_put 4 0 (entries4 a.currents) a.controller.pid.axes ws
-step_by (Err r) s ws = unanswered ws
+    Some (axes_put 4 0 (entries4 a.currents) a.controller.pid.axes ws)
+step_by (Err r) s ws = None
 
 -- a header has k first
-unfoldable pub step : List ℕ → List ℕ → List ℕ → List ℕ
+unfoldable pub step : List ℕ → List ℕ → List ℕ → Option (List ℕ)
 step h s ws = step_by (brake_of (word_at h 0)) s ws

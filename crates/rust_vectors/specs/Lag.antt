@@ -1,5 +1,5 @@
 -- The list of the encoder lag: the numbers that a header wants, the answer to a call, and what is compared after it. Assumes nothing.
-use Rattle.std.specs.Prelude.{ℕ, Bool, cond, ◌&&◌, List, eqb, get_or, set, Result, Ok, Err}
+use Rattle.std.specs.Prelude.{ℕ, Bool, cond, ◌&&◌, List, eqb, get_or, set, Option, Some, None, Result, Ok, Err}
 use Rattle.std.specs.Float.{binary32}
 use Rattle.std.specs.Float.Ieee.{of_bits}
 use Rattle.na.specs.Vector.{zeros2, vector2_of}
@@ -10,7 +10,7 @@ use Rattle.first_order_lag.specs.FirstOrderLag.{stepped_of, inverted_of, reset_o
 use Rattle.block_words.specs.Word.{word_at}
 use Rattle.block_floats.specs.Floats.{floats_at}
 use Rattle.rust_vectors.specs.declared.lag.LagAnswer.{LagAnswer}
-use Rattle.rust_vectors.specs.Memory.{word, unanswered}
+use Rattle.rust_vectors.specs.Memory.{word}
 use Rattle.rust_vectors.specs.Kinds.{by_kind3}
 
 -- ---- the header: k, dt in µs, the number of steps, dt and the least time constant in s, the number of calls
@@ -37,9 +37,9 @@ step_made l s ws =
     set (set (set (set ws 0 (word a.output.x)) 1 (word a.output.y)) 2 (word a.lag.state.x)) 3 (word a.lag.state.y)
 
 -- a lag of other numbers than the header's is none
-abbrev pub step_by : Result FirstOrderLag Refusal → List ℕ → List ℕ → List ℕ → List ℕ
-step_by (Ok l) h s ws = cond (is_wanted l h) (step_made l s ws) (unanswered ws)
-step_by (Err r) h s ws = unanswered ws
+abbrev pub step_by : Result FirstOrderLag Refusal → List ℕ → List ℕ → List ℕ → Option (List ℕ)
+step_by (Ok l) h s ws = cond (is_wanted l h) (Some (step_made l s ws)) None
+step_by (Err r) h s ws = None
 
-unfoldable pub step : List ℕ → List ℕ → List ℕ → List ℕ
+unfoldable pub step : List ℕ → List ℕ → List ℕ → Option (List ℕ)
 step h s ws = step_by (lag_of (word_at h 0)) h s ws

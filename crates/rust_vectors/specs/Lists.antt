@@ -1,15 +1,15 @@
 -- What is compared after a call, by the kind of list. Assumes nothing.
-use Rattle.std.specs.Prelude.{ℕ, List}
+use Rattle.std.specs.Prelude.{ℕ, List, Option, Some}
 use Rattle.rust_vectors.specs.declared.layout.ListOf.{ListOf}
 use Rattle.rust_vectors.specs.declared.layout.ListOf.TheVariants as list
 use Rattle.rust_vectors.specs.Pids as pid
 use Rattle.rust_vectors.specs.Brake as brake
 use Rattle.rust_vectors.specs.Lag as lag
 
--- the words after a call, from the run's header, the call and the words before it
-unfoldable pub step_of : ListOf → List ℕ → List ℕ → List ℕ → List ℕ
-step_of list.Pid1 h s ws = pid.step 1 h s ws
-step_of list.Pid3 h s ws = pid.step 3 h s ws
-step_of list.Pid4 h s ws = pid.step 4 h s ws
+-- the words after a call, from the run's header, the call and the words before it; nothing where the header makes no part
+unfoldable pub step_of : ListOf → List ℕ → List ℕ → List ℕ → Option (List ℕ)
+step_of list.Pid1 h s ws = Some (pid.step 1 h s ws)
+step_of list.Pid3 h s ws = Some (pid.step 3 h s ws)
+step_of list.Pid4 h s ws = Some (pid.step 4 h s ws)
 step_of list.Brake h s ws = brake.step h s ws
 step_of list.Lag h s ws = lag.step h s ws

@@ -27,7 +27,3 @@ abbrev pub axes_put : ℕ → ℕ → List Float → List PidController → List
 axes_put n i [] cs ws = ws
 axes_put n i (o ∷ os) [] ws = ws
 axes_put n i (o ∷ os) (c ∷ cs) ws = axes_put n (suc i) os cs (axis_put ws n i o c)
-
--- the words of no answer: the first is no float's
-abbrev pub unanswered : List ℕ → List ℕ
-unanswered ws = set ws 0 0xffff_ffff

@@ -2,7 +2,8 @@
 ghost use Rattle.std.specs.Prelude.{◌≡◌};
 ghost use Rattle.rust_vectors.specs.Brake.{answer, step};
 
-use crate::remembered::{UNANSWERED, put_axes, with_memories};
+use crate::call::Call;
+use crate::remembered::{put_axes, with_memories};
 use active_brake::{ActiveBrakeController, BrakeAnswer};
 use block_floats::floats_at;
 use block_words::word_at;
@@ -10,6 +11,7 @@ use na::{Vector4f, ZEROS_4};
 
 // A call has its kind and the wheel speeds, and then what is compared. The last kind is reset, whose
 // currents are wanted as 0.
+// The kinds of call are the numbers that oracle/README.md gives them: an enum would serve this match alone.
 #[tactic(auto, unfolding(crate::specs::Brake::answer, na::specs::Vector::zeros4))]
 fn answer(b: ActiveBrakeController, call: &[u8]) -> BrakeAnswer
     ensures { result ≡ answer b call.now }
@@ -23,19 +25,15 @@ fn answer(b: ActiveBrakeController, call: &[u8]) -> BrakeAnswer
     }
 }
 
-// A header has k and the number of calls.
+// A header has k and the number of calls. The words after the call, unless k is refused.
 #[tactic(auto, unfolding(crate::specs::Brake::step))]
-pub(crate) fn step(header: &[u8], call: &[u8], words: &mut [u32; 12])
-    ensures { words.new ≡ step header.now call.now words.old }
+pub(crate) fn step(call: Call<'_>) -> Option<[u32; 12]>
+    ensures { result ≡ step call.entry.header.now call.entry.bytes.now call.entry.words }
 {
-    match ActiveBrakeController::new(word_at(header, 0)) {
-        Ok(mut b) => {
-            b.pid = with_memories(b.pid, words);
-            let a = answer(b, call);
-            put_axes(words, a.currents.into(), a.controller.pid);
-        }
-        Err(_) => {
-            words[0] = UNANSWERED;
-        }
-    }
+    let mut b = ActiveBrakeController::new(word_at(call.header, 0)).ok()?;
+    let mut words = call.words;
+    b.pid = with_memories(b.pid, &words);
+    let a = answer(b, call.bytes);
+    put_axes(&mut words, a.currents.into(), a.controller.pid);
+    Some(words)
 }

@@ -8,7 +8,8 @@ use std::io;
 pub(crate) fn read_record(rt: &HostRuntime, size: usize) -> io::Result<Option<[u8; 140]>>
     requires { size ≤ 140 }
 {
+    // An array of the largest size, since memory is fixed: its first `size` bytes are the record.
     let mut bytes = [0; 140];
     let n = read_full(&mut rt.stdin(), &mut bytes[..size])?;
-    Ok(if n == size { Some(bytes) } else { None })
+    Ok((n == size).then_some(bytes))
 }

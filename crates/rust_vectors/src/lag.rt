@@ -2,7 +2,7 @@
 ghost use Rattle.std.specs.Prelude.{◌≡◌};
 ghost use Rattle.rust_vectors.specs.Lag.{is_wanted, answer, step_made, step};
 
-use crate::remembered::UNANSWERED;
+use crate::call::Call;
 use block_floats::floats_at;
 use block_words::word_at;
 use encoder_lag::new_from_horizon;
@@ -10,7 +10,7 @@ use first_order_lag::FirstOrderLag;
 use float_bits::{from_bits, to_bits};
 use na::{Vector2f, ZEROS_2};
 
-// What a call leaves: the lag after it, and the output.
+// What a call leaves, the lag after it and the output: calls go by value, so each hands both back.
 #[derive(Clone, Copy)]
 struct LagAnswer {
     lag: FirstOrderLag,
@@ -31,6 +31,7 @@ fn is_wanted(l: FirstOrderLag, header: &[u8]) -> bool
 
 // A call has its kind and the input, and then what is compared. The last kind is reset. The output
 // is that of `invert`, and otherwise wanted as 0.
+// The kinds of call are the numbers that oracle/README.md gives them: an enum would serve this match alone.
 #[tactic(auto, unfolding(crate::specs::Lag::answer, na::specs::Vector::zeros2))]
 fn answer(l: FirstOrderLag, call: &[u8]) -> LagAnswer
     ensures { result ≡ answer l call.now }
@@ -53,27 +54,29 @@ fn answer(l: FirstOrderLag, call: &[u8]) -> LagAnswer
 }
 
 #[tactic(auto, unfolding(crate::specs::Lag::step_made))]
-fn step_made(mut l: FirstOrderLag, call: &[u8], words: &mut [u32; 12])
-    ensures { words.new ≡ step_made l call.now words.old }
+fn step_made(mut l: FirstOrderLag, call: Call<'_>) -> [u32; 12]
+    ensures { result ≡ step_made l call.entry.bytes.now call.entry.words }
 {
+    let mut words = call.words;
     l.state = Vector2f {
         x: from_bits(words[2]),
         y: from_bits(words[3]),
     };
-    let a = answer(l, call);
+    let a = answer(l, call.bytes);
     words[0] = to_bits(a.output.x);
     words[1] = to_bits(a.output.y);
     words[2] = to_bits(a.lag.state.x);
     words[3] = to_bits(a.lag.state.y);
+    words
 }
 
-// A lag of other numbers than the header's is none.
+// The words after the call. A lag of other numbers than the header's is none.
 #[tactic(auto, unfolding(crate::specs::Lag::step))]
-pub(crate) fn step(header: &[u8], call: &[u8], words: &mut [u32; 12])
-    ensures { words.new ≡ step header.now call.now words.old }
+pub(crate) fn step(call: Call<'_>) -> Option<[u32; 12]>
+    ensures { result ≡ step call.entry.header.now call.entry.bytes.now call.entry.words }
 {
-    match new_from_horizon(word_at(header, 0)) {
-        Ok(l) if is_wanted(l, header) => step_made(l, call, words),
-        _ => words[0] = UNANSWERED,
+    match new_from_horizon(word_at(call.header, 0)) {
+        Ok(l) if is_wanted(l, call.header) => Some(step_made(l, call)),
+        _ => None,
     }
 }

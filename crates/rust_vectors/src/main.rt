@@ -5,6 +5,7 @@
 
 mod layout; // layout.rt: how a list is laid out
 mod input; // input.rt: a record, as it is read
+mod call; // call.rt: a call, with what it is made of
 mod remembered; // remembered.rt: the words that an answer is compared by, and the memory in them
 mod pids; // pids.rt: the lists of the PID controllers
 mod brake; // brake.rt: the list of the active brake
@@ -15,13 +16,14 @@ ghost use Rattle.std.specs.Prelude.{◌≡◌};
 ghost use Rattle.rust_vectors.specs.Lists.{step_of};
 
 use block_words::word_at;
+use call::Call;
 use compare::{agrees, show};
 use full_read::read_full;
 use input::read_record;
 use layout::{Layout, ListOf, layout_of};
 use std::io;
 use tally::Tally;
-use vector_run::report::line;
+use vector_run::report::write_line;
 
 fn cut_short(tally: Tally) -> Tally {
     Tally {
@@ -30,16 +32,17 @@ fn cut_short(tally: Tally) -> Tally {
     }
 }
 
-// Counts a call, and shows it where it is among the first mismatches. A kind that is none is one.
-fn judge(
-    rt: &HostRuntime,
-    tally: Tally,
-    layout: Layout,
-    words: &[u32; 12],
-    call: &[u8],
-) -> io::Result<Tally> {
-    let known = word_at(call, 0) < layout.kinds;
-    if known & agrees(words, call, layout.compared) {
+// Whether a call has the answer wanted. No answer is none, nor is one to a kind that is none.
+fn is_right(layout: Layout, answer: Option<[u32; 12]>, call: &[u8]) -> bool {
+    let Some(words) = answer else {
+        return false;
+    };
+    (word_at(call, 0) < layout.kinds) & agrees(&words, call, layout.compared)
+}
+
+// Counts a call, and shows it where it is among the first mismatches.
+fn judge(rt: &HostRuntime, tally: Tally, right: bool) -> io::Result<Tally> {
+    if right {
         return Ok(tally.count(1, 0));
     }
     if tally.left_to_show() > 0 {
@@ -48,21 +51,22 @@ fn judge(
     Ok(tally.count(1, 1))
 }
 
-// One call of a list.
+// The words after one call of a list; none where its header makes no controller or lag.
 #[tactic(auto, unfolding(crate::specs::Lists::step_of))]
-fn step(list: ListOf, header: &[u8], call: &[u8], words: &mut [u32; 12])
-    ensures { words.new ≡ step_of list header.now call.now words.old }
+fn step(list: ListOf, call: Call<'_>) -> Option<[u32; 12]>
+    ensures { result ≡ step_of list call.entry.header.now call.entry.bytes.now call.entry.words }
 {
     match list {
-        ListOf::Pid1 => pids::step::<1>(header, call, words),
-        ListOf::Pid3 => pids::step::<3>(header, call, words),
-        ListOf::Pid4 => pids::step::<4>(header, call, words),
-        ListOf::Brake => brake::step(header, call, words),
-        ListOf::Lag => lag::step(header, call, words),
+        ListOf::Pid1 => Some(pids::step::<1>(call)),
+        ListOf::Pid3 => Some(pids::step::<3>(call)),
+        ListOf::Pid4 => Some(pids::step::<4>(call)),
+        ListOf::Brake => brake::step(call),
+        ListOf::Lag => lag::step(call),
     }
 }
 
-// Reads one call, and makes it.
+// rt and list go from run to run_call as they are: a struct of the two would be no plainer.
+// Reads one call, and makes it. The words stay where it has no answer.
 fn run_call(
     rt: &HostRuntime,
     list: ListOf,
@@ -71,11 +75,19 @@ fn run_call(
     tally: Tally,
 ) -> io::Result<Tally> {
     let layout = layout_of(list);
-    let Some(call) = read_record(rt, layout.call)? else {
+    let Some(record) = read_record(rt, layout.call)? else {
         return Ok(cut_short(tally));
     };
-    step(list, header, &call, words);
-    judge(rt, tally, layout, words, &call)
+    let answer = step(
+        list,
+        Call {
+            header,
+            bytes: &record,
+            words: *words,
+        },
+    );
+    *words = answer.unwrap_or(*words);
+    judge(rt, tally, is_right(layout, answer, &record))
 }
 
 // The calls of a run, as many as its header says, unless the input ends before. Nothing is remembered
@@ -124,10 +136,8 @@ fn run_list(rt: &HostRuntime, list: ListOf) -> io::Result<Tally> {
 
 // Runs the next list, and prints its line.
 fn run(rt: &HostRuntime, list: ListOf, name: &str) -> io::Result<()> {
-    let mut text = [0u8; 80];
-    let n = line(run_list(rt, list)?, &mut text);
-    rt.print(name)?;
-    rt.write_all(&text[..n])
+    let tally = run_list(rt, list)?;
+    write_line(&mut io::writer(rt), name, tally)
 }
 
 // What stands behind the lists is no record, and shows.

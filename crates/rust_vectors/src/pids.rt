@@ -2,6 +2,7 @@
 ghost use Rattle.std.specs.Prelude.{◌≡◌, ◌<◌, ◌≤◌};
 ghost use Rattle.rust_vectors.specs.Pids.{gains_at, thresh_at, limits_at, axis_at, axes_at, answer, step};
 
+use crate::call::Call;
 use crate::remembered::{put_axes, with_memories};
 use block_floats::{float_at, floats_at};
 use block_words::word_at;
@@ -26,16 +27,13 @@ fn gains_at(header: &[u8], i: u8) -> PidGains
     }
 }
 
+// header, n and i are what the definitions of specs/Pids.antt take: a struct of them is no plainer.
 #[tactic(auto, unfolding(crate::specs::Pids::thresh_at))]
 fn thresh_at(header: &[u8], n: u8, i: u8) -> Option<f32>
     ensures { result ≡ thresh_at header.now n i }
 {
     let at = 1 + 5 * (n as usize);
-    if word_at(header, at) == 1 {
-        Some(float_at(header, at + 1 + (i as usize)))
-    } else {
-        None
-    }
+    (word_at(header, at) == 1).then_some(float_at(header, at + 1 + (i as usize)))
 }
 
 #[tactic(auto, unfolding(crate::specs::Pids::limits_at))]
@@ -44,13 +42,9 @@ fn limits_at(header: &[u8], n: u8, i: u8) -> Option<(f32, f32)>
 {
     let n = n as usize;
     let at = 2 + 6 * n;
-    if word_at(header, at) == 1 {
-        let lo = float_at(header, at + 1 + (i as usize));
-        let hi = float_at(header, at + 1 + n + (i as usize));
-        Some((lo, hi))
-    } else {
-        None
-    }
+    let lo = float_at(header, at + 1 + (i as usize));
+    let hi = float_at(header, at + 1 + n + (i as usize));
+    (word_at(header, at) == 1).then_some((lo, hi))
 }
 
 // Axis i of n, with nothing remembered.
@@ -63,7 +57,7 @@ fn axis_at(header: &[u8], n: u8, i: u8) -> PidController
     PidController::new(gain, thresh, limits_at(header, n, i))
 }
 
-#[tactic(auto, unfolding(crate::specs::Pids::axes_at))]
+// Four axes at most, here and below: a type that says so would be made and unmade for the proof alone.
 fn axes_at<const N: usize>(header: &[u8]) -> PidAxes<N>
     requires { N ≤ 4 }
     ensures { result ≡ axes_at header.now }
@@ -80,6 +74,7 @@ fn axes_at<const N: usize>(header: &[u8]) -> PidAxes<N>
 
 // A call has its kind, setpoint, process variable, derivative and dt, and then what is compared. The
 // last kind is reset, whose output is wanted as 0.
+// The kinds of call are the numbers that oracle/README.md gives them: an enum would serve this match alone.
 #[tactic(auto, unfolding(crate::specs::Pids::answer))]
 fn answer<const N: usize>(c: PidAxes<N>, call: &[u8]) -> PidAxesAnswer<N>
     requires { N ≤ 4 }
@@ -100,10 +95,12 @@ fn answer<const N: usize>(c: PidAxes<N>, call: &[u8]) -> PidAxesAnswer<N>
 }
 
 #[tactic(auto, unfolding(crate::specs::Pids::step))]
-pub(crate) fn step<const N: usize>(header: &[u8], call: &[u8], words: &mut [u32; 12])
+pub(crate) fn step<const N: usize>(call: Call<'_>) -> [u32; 12]
     requires { N ≤ 4 }
-    ensures { words.new ≡ step N header.now call.now words.old }
+    ensures { result ≡ step N call.entry.header.now call.entry.bytes.now call.entry.words }
 {
-    let a = answer::<N>(with_memories(axes_at(header), words), call);
-    put_axes(words, a.output, a.controller);
+    let mut words = call.words;
+    let a = answer::<N>(with_memories(axes_at(call.header), &words), call.bytes);
+    put_axes(&mut words, a.output, a.controller);
+    words
 }

@@ -6,9 +6,6 @@ use float_bits::{from_bits, to_bits};
 use pid::PidController;
 use pid_axes::PidAxes;
 
-// The words of no answer: none is a float's, so that they show as a mismatch.
-pub(crate) const UNANSWERED: u32 = 0xffff_ffff;
-
 // A controller that remembers the errors with these bits, the previous one and the integrated one.
 #[tactic(auto, unfolding(crate::specs::Memory::with_memory))]
 fn with_memory(c: PidController, prev: u32, integrated: u32) -> PidController
@@ -33,6 +30,7 @@ fn put_axis(words: &mut [u32; 12], n: usize, i: usize, output: f32, c: PidContro
 }
 
 // Axes that remember the errors of the words.
+// Four at most, as in pids.rt. Each axis has three words, n apart: a zip of three parts is no plainer.
 pub(crate) fn with_memories<const N: usize>(mut c: PidAxes<N>, words: &[u32; 12]) -> PidAxes<N>
     requires { N ≤ 4 }
     ensures { result.axes ≡ with_memories N 0 c.entry.axes words.now }
@@ -43,6 +41,7 @@ pub(crate) fn with_memories<const N: usize>(mut c: PidAxes<N>, words: &[u32; 12]
     c
 }
 
+// By the index, and four axes at most, as above.
 pub(crate) fn put_axes<const N: usize>(words: &mut [u32; 12], output: [f32; N], c: PidAxes<N>)
     requires { N ≤ 4 }
     ensures { words.new ≡ axes_put N 0 output.entry c.entry.axes words.old }

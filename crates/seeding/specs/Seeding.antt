@@ -29,6 +29,7 @@ deviation sum squares n =
     let mean = div binary32 sum n in
     square_root binary32 (sub binary32 (div binary32 squares n) (mul binary32 mean mean))
 
+-- one for each entry, here and below: a vector's entries have names
 abbrev pub deviation_x : Seeding → Float
 deviation_x s = deviation s.pos_sum.x s.pos_sq_sum.x (of_int binary32 (pos s.n))
 

@@ -10,6 +10,7 @@ pub struct ManeuverSetpoints {
     pub body_accel: Vector3f,
 }
 
+// A constant and no derived `Default`, which is a call, here and below.
 pub const ZERO_SETPOINTS: ManeuverSetpoints = ManeuverSetpoints {
     body_twist: ZEROS_3,
     body_accel: ZEROS_3,

@@ -4,26 +4,25 @@ ghost use Rattle.sight_inputs.specs.Command.{first_words, command_words};
 
 use block_floats::float_at;
 use cmd::CommandWords;
-use std::array;
 
 // Where they begin.
 const COMMAND: usize = 24;
 
 // The first n of them; the others are not read: they are 0.0.
-#[tactic(auto, unfolding(crate::specs::Command::first_words))]
 fn first_words(block: &[u8], n: usize) -> CommandWords
     ensures { result ≡ first_words block.now n }
 {
-    array::from_fn(|i| {
+    let mut words = [0.0; 13];
+    for (i, x) in words.iter_mut().enumerate() {
         if i < n {
-            float_at(block, COMMAND + i)
-        } else {
-            0.0
+            *x = float_at(block, COMMAND + i);
         }
-    })
+    }
+    words
 }
 
 // Those that the mode uses.
+// The mode is a number, as the scope paper (document 01) has it: words of one that is no mode are 0.0.
 #[tactic(auto, unfolding(crate::specs::Command::command_words))]
 pub(crate) fn command_words(block: &[u8], mode: u32) -> CommandWords
     ensures { result ≡ command_words block.now mode }

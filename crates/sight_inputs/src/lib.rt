@@ -4,7 +4,7 @@
 mod command; // command.rt: the command words
 pub mod flag; // flag.rt: the flags
 mod layout; // layout.rt: where the words lie
-mod parts; // parts.rt: a matrix
+pub mod parts; // parts.rt: a matrix
 
 ghost use Rattle.std.specs.Prelude.{◌≡◌};
 ghost use Rattle.sight_inputs.specs.Inputs.{sight_input, plan_input};

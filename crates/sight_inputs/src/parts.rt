@@ -1,23 +1,18 @@
 // A matrix of a block.
-ghost use Rattle.std.specs.Prelude.{◌≡◌, ◌<◌, slice_index};
-ghost use Rattle.block_floats.specs.Floats.{floats_at};
+ghost use Rattle.std.specs.Prelude.{◌≡◌};
 ghost use Rattle.sight_inputs.specs.Parts.{matrix_of_rows};
 
 use block_floats::floats_at;
 use matrices::Matrix;
-use std::array;
 
-// The matrix of four columns whose rows begin at these words. Over the columns too it is not
-// proved: where R is 0, nothing says that a row fits in memory, as `from_fn` asks.
-pub(crate) fn matrix_at<const R: usize>(block: &[u8], rows: [u8; R]) -> Matrix<R, 4>
+// The matrix whose rows begin at these words.
+// By the index: `from_fn` asks that a row fits in memory, and nothing says what a zip has written.
+pub fn matrix_at<const R: usize, const C: usize>(block: &[u8], rows: [u8; R]) -> Matrix<R, C>
     ensures { result ≡ matrix_of_rows block.now rows.entry }
 {
-    Matrix {
-        rows: array::from_fn(
-            |i: usize| -> [f32; 4]
-                requires { i < R }
-                ensures { result ≡ floats_at block.entry.now (slice_index rows i) 4 }
-            { floats_at(block, rows[i]) },
-        ),
+    let mut made = [[0.0; C]; R];
+    for (i, row) in made.iter_mut().enumerate() {
+        *row = floats_at(block, rows[i]);
     }
+    Matrix { rows: made }
 }

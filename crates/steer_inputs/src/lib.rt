@@ -2,7 +2,7 @@
 #![tactic(auto)]
 
 mod layout; // layout.rt: where the words lie
-mod parts; // parts.rt: samples and matrices
+mod parts; // parts.rt: a sample
 
 ghost use Rattle.std.specs.Prelude.{◌≡◌};
 ghost use Rattle.steer_inputs.specs.Inputs.{steer_input, finish_input};
@@ -10,12 +10,13 @@ ghost use Rattle.steer_inputs.specs.Inputs.{steer_input, finish_input};
 use crate::layout::{
     ACCEL_TO_WHEEL, COSINE, FRESH, FRICTION, INVERSE_INERTIA, NEXT, SINE, TWIST_TO_WHEEL,
 };
-use crate::parts::{matrix_at, sample_at};
+use crate::parts::sample_at;
 use block_floats::{float_at, floats_at};
 use inputs::{FinishInput, SteerInput};
 use matrices::rotation::Rotation;
 use sight_inputs::WHEELS;
 use sight_inputs::flag::Flag;
+use sight_inputs::parts::matrix_at;
 
 #[tactic(auto, using(block_floats::proofs::Vectors::four), unfolding(crate::specs::Inputs::steer_input))]
 pub fn steer_input(block: &[u8]) -> SteerInput

@@ -9,7 +9,7 @@ ghost use Rattle.tally.specs.Tally.{none_yet, counted};
 pub struct Tally {
     pub records: u64,
     pub mismatches: u64,
-    // Whether the list ends within a record.
+    // Whether the list ends within a record: a mark beside counts that stand either way.
     pub cut_short: bool,
 }
 

@@ -1,4 +1,3 @@
 -- Laws that belong to no one function. Assumes nothing.
 pub mod Growing
 pub mod Digits
-pub mod Placing

@@ -8,8 +8,8 @@ ghost use Rattle.text_pieces.specs.Puts.{Within};
 use itoa::Buffer;
 use std::marker::Model;
 
-// A text of at most N bytes, which lie in the value itself; what doesn't fit is left out. (A `write!`
-// is no plainer: it can answer an error, and no law says that it answers none where there is room.)
+// A text of at most N bytes, in the value itself, for there is no heap; what doesn't fit is left out.
+// No `write!`: it answers an error or none, and no law says that it answers none where there is room.
 #[derive(Drop)]
 pub struct Text<const N: usize> {
     bytes: [u8; N],
@@ -57,7 +57,6 @@ impl<const N: usize> Text<N> {
     }
 
     // A space and a number.
-    #[tactic(auto, using(crate::proofs::Growing::growing))]
     pub fn push_number(&mut self, n: u32)
         ensures { self.new ≡ take N (self.old ++ field (decimal n)) }
     {
@@ -67,6 +66,8 @@ impl<const N: usize> Text<N> {
 
     // Puts the text at the start of buf, and answers how long it is; what stands behind it there stays.
     // (`Within` is what `&buf[..r]` asks.)
+    // A length beside the caller's bytes: memory is fixed, with no heap for a String.
+    // Each writer of a line has these clauses: a name for the three would hide which bytes stand where.
     pub fn put(&self, buf: &mut [u8; N]) -> usize
         ensures value { result ≡ length self.now }
         ensures buf_after { buf.new ≡ self.now ++ drop (length self.now) buf.old }

@@ -18,6 +18,7 @@ pub struct Counts {
     pub refused: u32,
 }
 
+// A constant and no derived `Default`, which is a call, here and below.
 pub const NO_COUNTS: Counts = Counts {
     quiet: 0,
     gathered: 0,

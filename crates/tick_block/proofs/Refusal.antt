@@ -4,6 +4,7 @@ use mathlib.Core.Path.{◌≡◌, refl, ◌∙◌}
 use mathlib.Core.Bool.{Bool, true, false, cond}
 use mathlib.Core.List.{List}
 use Rattle.std.specs.Prelude.{Result, Ok, Err}
+use Rattle.std.specs.Result.{result_map_both}
 use Rattle.refusal.specs.declared.Refusal.{Refusal}
 use Rattle.refusal.specs.declared.Refusal.TheVariants as Why
 use Rattle.refusal.specs.Refusal.{refusal_number, number_of}
@@ -14,10 +15,10 @@ use Rattle.block_words.specs.Word.{word_at}
 use Rattle.block_check.specs.Layout as at
 use Rattle.block_check.specs.Check.{spare_zero}
 use Rattle.block_tests.specs.Tests.{is_whole, checks, is_version, tested_with, inputs_tested, format_tested, block_tested}
-use Rattle.tick_block.specs.Block.{answer_to, block_read, block_refusal}
+use Rattle.tick_block.specs.Block.{tick_block, block_read, block_refusal}
 
 -- the number of what the tests show is the answer's
-answered : (t : Result TickLength Refusal) (s : List ℕ) → number_of (answer_to t s) ≡ number_of t
+answered : (t : Result TickLength Refusal) (s : List ℕ) → number_of (result_map_both (tick_block s) (λ (r : Refusal). r) t) ≡ number_of t
 answered (Ok t) s = refl
 answered (Err r) s = refl
 

@@ -1,5 +1,6 @@
 -- A tick block, document 01, 'Records', and why one is refused, 'When a call is turned away'. Assumes nothing.
-use Rattle.std.specs.Prelude.{ℕ, cond, List, Result, Ok, Err}
+use Rattle.std.specs.Prelude.{ℕ, cond, List, Result}
+use Rattle.std.specs.Result.{result_map_both}
 use Rattle.tick_length.specs.declared.TickLength.{TickLength}
 use Rattle.tick_length.specs.TickLength.{is_tick_length}
 use Rattle.cmd.specs.Command.{is_mode}
@@ -19,19 +20,12 @@ unfoldable pub tick_block : List ℕ → TickLength → TickBlock
 tick_block s t = record {
   number = word_at s at.number;
   tick = t;
-  sight = sight_input s;
-  plan = plan_input s;
-  steer = steer_input s;
-  finish = finish_input s;
+  inputs = record { sight = sight_input s; plan = plan_input s; steer = steer_input s; finish = finish_input s };
 }
 
 -- what it says where it passed, and else why it is refused
-abbrev pub answer_to : Result TickLength Refusal → List ℕ → Result TickBlock Refusal
-answer_to (Ok t) s = Ok (tick_block s t)
-answer_to (Err why) s = Err why
-
 unfoldable pub block_read : List ℕ → Result TickBlock Refusal
-block_read s = answer_to (block_tested s) s
+block_read s = result_map_both (tick_block s) (λ r. r) (block_tested s)
 
 -- ---- document 01's numbers
 

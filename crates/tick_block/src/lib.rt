@@ -5,26 +5,21 @@ ghost use Rattle.std.specs.Prelude.{◌≡◌};
 ghost use Rattle.refusal.specs.Refusal.{number_of};
 ghost use Rattle.tick_block.specs.Block.{tick_block, block_read, block_refusal};
 
+use block_check::NUMBER;
 use block_tests::block_tested;
 use block_words::word_at;
-use inputs::{FinishInput, PlanInput, SightInput, SteerInput};
+use inputs::TickInput;
 use refusal::Refusal;
 use sight_inputs::{plan_input, sight_input};
 use steer_inputs::{finish_input, steer_input};
 use tick_length::TickLength;
-
-// Where the tick number lies, document 01, 'Records'.
-const NUMBER: usize = 1;
 
 #[derive(Clone, Copy)]
 pub struct TickBlock {
     // The tick number, from 0.
     pub number: u32,
     pub tick: TickLength,
-    pub sight: SightInput,
-    pub plan: PlanInput,
-    pub steer: SteerInput,
-    pub finish: FinishInput,
+    pub inputs: TickInput,
 }
 
 #[tactic(auto, unfolding(crate::specs::Block::tick_block))]
@@ -34,10 +29,12 @@ fn tick_block(block: &[u8], tick: TickLength) -> TickBlock
     TickBlock {
         number: word_at(block, NUMBER),
         tick,
-        sight: sight_input(block),
-        plan: plan_input(block),
-        steer: steer_input(block),
-        finish: finish_input(block),
+        inputs: TickInput {
+            sight: sight_input(block),
+            plan: plan_input(block),
+            steer: steer_input(block),
+            finish: finish_input(block),
+        },
     }
 }
 

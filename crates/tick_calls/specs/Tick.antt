@@ -8,10 +8,7 @@ use Rattle.vision.specs.Vision.{active}
 use Rattle.divergence.specs.Divergence.{is_recovering}
 use Rattle.call_answers.specs.declared.Finished.{Finished}
 use Rattle.call_answers.specs.declared.Sighted.{Sighted}
-use Rattle.inputs.specs.declared.FinishInput.{FinishInput}
-use Rattle.inputs.specs.declared.PlanInput.{PlanInput}
-use Rattle.inputs.specs.declared.SightInput.{SightInput}
-use Rattle.inputs.specs.declared.SteerInput.{SteerInput}
+use Rattle.inputs.specs.declared.TickInput.{TickInput}
 use Rattle.body_controller.specs.declared.BodyController.{BodyController}
 use Rattle.body_controller.specs.declared.Called.{Called}
 use Rattle.body_controller.specs.Controller.{refused}
@@ -41,20 +38,20 @@ abbrev pub then : {A B : Type 0} → Result A Refusal → BodyController → (Bo
 then (Ok a) c next = next c
 then (Err r) c next = refused r c
 
-unfoldable pub steered : BodyController → SteerInput → FinishInput → Called Finished
-steered c s f = then (steer_of c s).answer (steer_of c s).controller (λ d. finish_of d f)
+unfoldable pub steered : BodyController → TickInput → Called Finished
+steered c i = then (steer_of c i.steer).answer (steer_of c i.steer).controller (λ d. finish_of d i.finish)
 
-unfoldable pub planned : BodyController → PlanInput → SteerInput → FinishInput → Called Finished
-planned c p s f = then (plan_of c p).answer (plan_of c p).controller (λ d. steered d s f)
+unfoldable pub planned : BodyController → TickInput → Called Finished
+planned c i = then (plan_of c i.plan).answer (plan_of c i.plan).controller (λ d. steered d i)
 
 -- 'A refused block .. prints the number its tick would have had, `!`, the refusal'; the controller stays
 unfoldable pub refused_at : BodyController → Refusal → Ticked
 refused_at c r = record { line = Lines.Refused (record { number = c.ticks; refusal = refusal_number r }); controller = c }
 
 -- c is the controller before sight, and d the one after it
-abbrev pub ticked_with : Result Sighted Refusal → BodyController → BodyController → PlanInput → SteerInput → FinishInput → Ticked
-ticked_with (Ok a) c d p s f = ended_by (planned d p s f) c.ticks (letter_of a.action)
-ticked_with (Err r) c d p s f = refused_at c r
+abbrev pub ticked_with : Result Sighted Refusal → BodyController → BodyController → TickInput → Ticked
+ticked_with (Ok a) c d i = ended_by (planned d i) c.ticks (letter_of a.action)
+ticked_with (Err r) c d i = refused_at c r
 
-unfoldable pub ticked : BodyController → SightInput → PlanInput → SteerInput → FinishInput → Ticked
-ticked c i p s f = ticked_with (sight_of c i).answer c (sight_of c i).controller p s f
+unfoldable pub ticked : BodyController → TickInput → Ticked
+ticked c i = ticked_with (sight_of c i.sight).answer c (sight_of c i.sight).controller i

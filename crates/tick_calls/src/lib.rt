@@ -7,11 +7,11 @@ ghost use Rattle.tick_calls.specs.Tick.{ending_of, ended_by, steered, planned, r
 
 use body_controller::{BodyController, Called};
 use call_answers::Finished;
-use inputs::{FinishInput, PlanInput, SightInput, SteerInput};
+use inputs::TickInput;
 use line_text::{Ending, Line, RefusedLine, TickLine};
 use refusal::Refusal;
 
-// A block's line, and the controller as the block leaves it.
+// A block's line, and the controller as the block leaves it: all goes by value, so one struct has both.
 #[derive(Clone, Copy)]
 pub struct Ticked {
     pub line: Line,
@@ -64,23 +64,18 @@ fn then<A: Drop, B, F: FnOnce(BodyController) -> Called<B>>(called: Called<A>, n
 
 // The calls behind plan.
 #[tactic(auto, unfolding(crate::specs::Tick::steered))]
-fn steer_on(c: BodyController, steer: SteerInput, finish: FinishInput) -> Called<Finished>
-    ensures { result ≡ steered c steer finish }
+fn steer_on(c: BodyController, i: TickInput) -> Called<Finished>
+    ensures { result ≡ steered c i }
 {
-    then(c.steer(steer), |c: BodyController| c.finish(finish))
+    then(c.steer(i.steer), |c: BodyController| c.finish(i.finish))
 }
 
 // The calls behind sight.
 #[tactic(auto, unfolding(crate::specs::Tick::planned))]
-fn plan_on(
-    c: BodyController,
-    plan: PlanInput,
-    steer: SteerInput,
-    finish: FinishInput,
-) -> Called<Finished>
-    ensures { result ≡ planned c plan steer finish }
+fn plan_on(c: BodyController, i: TickInput) -> Called<Finished>
+    ensures { result ≡ planned c i }
 {
-    then(c.plan(plan), |c: BodyController| steer_on(c, steer, finish))
+    then(c.plan(i.plan), |c: BodyController| steer_on(c, i))
 }
 
 // A block that sight refused; the controller stays.
@@ -100,22 +95,12 @@ fn refuse_tick(c: BodyController, refusal: Refusal) -> Ticked
 // A tick: the four calls, up to the first that is turned away. Where that is sight, the block is
 // refused and the controller stays.
 #[tactic(auto, unfolding(crate::specs::Tick::ticked))]
-pub fn drive_tick(
-    c: BodyController,
-    sight: SightInput,
-    plan: PlanInput,
-    steer: SteerInput,
-    finish: FinishInput,
-) -> Ticked
-    ensures { result ≡ ticked c sight plan steer finish }
+pub fn drive_tick(c: BodyController, i: TickInput) -> Ticked
+    ensures { result ≡ ticked c i }
 {
-    let sighted = c.sight(sight);
+    let sighted = c.sight(i.sight);
     match sighted.answer {
-        Ok(s) => end_tick(
-            plan_on(sighted.controller, plan, steer, finish),
-            c.ticks(),
-            s.action.letter(),
-        ),
+        Ok(s) => end_tick(plan_on(sighted.controller, i), c.ticks(), s.action.letter()),
         Err(refusal) => refuse_tick(c, refusal),
     }
 }

@@ -16,11 +16,3 @@ made_is k t h = go (is_tick_length k) refl h
     go : (b : Bool) → is_tick_length k ≡ b → cond {A = Result TickLength Refusal} b (Ok (record { k = k })) (Err Why.TickLength) ≡ Ok t → (is_tick_length t.k ≡ true) × (t.k ≡ k)
     go true e g = let same : t.k ≡ k = cc in (ap is_tick_length same ∙ e, same)
     go false e g = let z : ◌≡◌ {A = ℕ} 0 1 = cc in absurd (omega arith)
-
-pub refused_is : (k : ℕ) → tick_length_of k ≡ Err Why.TickLength → is_tick_length k ≡ false
-unfolding tick_length_of
-refused_is k h = go (is_tick_length k) refl h
-  where
-    go : (b : Bool) → is_tick_length k ≡ b → cond {A = Result TickLength Refusal} b (Ok (record { k = k })) (Err Why.TickLength) ≡ Err Why.TickLength → is_tick_length k ≡ false
-    go true e g = cc
-    go false e g = e

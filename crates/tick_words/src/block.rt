@@ -1,19 +1,18 @@
 // A block's words, and the pass after it.
 use crate::calls::sight;
 use crate::state::put_state;
+use block_check::NUMBER;
 use block_order::order_tested;
 use block_tests::block_tested;
 use block_words::word_at;
 use body_controller::BodyController;
 use refusal::Refusal;
 
-// Where a block has its number.
-const NUMBER: usize = 1;
-
 // Word 1 of a refused block, behind the eight outcomes.
 const REFUSED: u32 = 8;
 
 // The controller that is to run a block, if it comes in order: a pass's first block makes it.
+// drive_blocks has its own: it takes a block that is read, and a pass that outlives a refusal.
 fn controller_for(pass: Option<BodyController>, block: &[u8]) -> Result<BodyController, Refusal> {
     let tick = block_tested(block)?;
     let c = match pass {
@@ -32,10 +31,7 @@ pub(crate) fn run_block(
     words: &mut [u32; 96],
 ) -> Option<BodyController> {
     words[0] = pass.map_or(0, |c| c.ticks());
-    let ticked = match controller_for(pass, block) {
-        Ok(c) => sight(c, block, words),
-        Err(refusal) => Err(refusal),
-    };
+    let ticked = controller_for(pass, block).and_then(|c| sight(c, block, words));
     match ticked {
         Ok(c) => {
             put_state(words, c);

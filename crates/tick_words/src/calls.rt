@@ -6,6 +6,7 @@ use refusal::Refusal;
 use sight_inputs::{plan_input, sight_input};
 use steer_inputs::{finish_input, steer_input};
 
+// A struct of c, block and words would be taken apart and made again in each call: no plainer.
 // A block that sight turns away is refused.
 pub(crate) fn sight(
     c: BodyController,

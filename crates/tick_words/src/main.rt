@@ -37,7 +37,9 @@ fn write(rt: &HostRuntime, words: &[u32; 96], n: usize) -> io::Result<bool> {
 fn main(rt: HostRuntime) -> io::Result<()> {
     let mut pass = None;
     for _ in 0..TURNS {
+        // An array, since memory is fixed: its first n bytes are what was read.
         let mut block = [0; 512];
+        // An array, as each word has its place in oracle/README.md: a struct with methods would be no plainer.
         let mut words = [0; 96];
         let n = read_full(&mut rt.stdin(), &mut block)?;
         pass = run_block(pass, &block[..n], &mut words);

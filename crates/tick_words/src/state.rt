@@ -32,6 +32,7 @@ fn put_held(words: &mut [u32; 96], memory: Memory) {
     }
 }
 
+// The fields by their names, here and below: a `From` for arrays would list the same ones.
 fn put_position(words: &mut [u32; 96], p: GlobalPosition) {
     words[68] = 2;
     put::<3>(words, 69, p.target_pose.into());

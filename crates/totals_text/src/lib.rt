@@ -8,8 +8,9 @@ ghost use Rattle.totals_text.specs.Totals.{totals_text};
 use text_pieces::Text;
 use tick::Counts;
 
-// Puts the last line at the start of buf, and answers how long it is. (`Within` is what `&buf[..r]`
-// asks.)
+// Puts the last line at the start of buf, and answers how long it is. (`Within` is what `&buf[..r]` asks.)
+// A length beside the caller's bytes: memory is fixed, with no heap for a String.
+// Each writer of a line has these clauses: a name for the three would hide which bytes stand where.
 #[tactic(auto, using(crate::proofs::Bound::totals_kept))]
 pub fn write_totals(buf: &mut [u8; 128], ticks: u32, counts: Counts) -> usize
     ensures value { result ≡ length (totals_text ticks counts) }

@@ -16,6 +16,7 @@ use setpoints::{ManeuverSetpoints, PidMemory};
 use vectors::{add, scale, sub};
 
 // What tracking answers, beside the PID's memory as the call leaves it.
+// Both by value, no `&mut` and no pair: document 01 has an answer struct beside the new state.
 #[derive(Clone, Copy)]
 pub struct TrackingAnswer {
     pub setpoints: ManeuverSetpoints,
@@ -23,6 +24,7 @@ pub struct TrackingAnswer {
 }
 
 // What the pose's PID answers, beside its memory.
+// Both by value, no `&mut` and no pair: document 01 has an answer struct beside the new state.
 #[derive(Clone, Copy)]
 struct PoseAnswer {
     output: Vector3f,
@@ -39,6 +41,7 @@ struct AxisAnswer {
 
 // One axis of `pose_pid_controller`, with no output limits. Where the derivative is given, pid.rs
 // does not read the previous error.
+// pid.rs's own parameters, here and below: a struct of them would be made for each call alone.
 #[tactic(auto, unfolding(crate::specs::Setpoints::axis_answered, crate::specs::Setpoints::pose_axis))]
 fn pose_axis(
     gain: PidGains,
@@ -67,7 +70,8 @@ fn pose_axis(
 }
 
 // `pose_pid_controller` of a context: x and y alike, and the heading. s is the setpoint, v the
-// process variable, d the derivative. Entries by name: a sample's vectors are structs of floats.
+// process variable, d the derivative.
+// Entries by name, no array: document 01 has a sample's vectors as structs of floats.
 #[tactic(auto, unfolding(crate::specs::Setpoints::pose_answered, crate::specs::Setpoints::axis_answered, crate::specs::Setpoints::pose_axis, pid::specs::Axis::calculated_with_derivative, pid::specs::Axis::response, pid::specs::Axis::integrated))]
 fn pose_pid(pid: PidMemory, s: Vector3f, v: Vector3f, d: Vector3f, dt_s: f32) -> PoseAnswer
     ensures { result ≡ pose_answered pid s v d dt_s }
@@ -129,6 +133,7 @@ fn accel_setpoint(feedback: Vector3f) -> Vector3f
 }
 
 // traj_state and traj_accel are a sample's; the modes chosen don't use the acceleration.
+// The Rust's parameters: a `Sample` would bring the memory's crate, and with it commands, here.
 #[tactic(auto, unfolding(crate::specs::Setpoints::tracking_setpoints))]
 pub fn calc_tracking_setpoints(
     pid: PidMemory,

@@ -1,6 +1,7 @@
 -- A list's line behind its name, as bytes in ASCII: how many records and mismatches, and whether its last record is cut short.
 -- Assumes nothing.
-use Rattle.std.specs.Prelude.{ℕ, ◌+◌, ◌≤◌, ◌≡◌, Bool, cond, List, [], ◌∷◌, ◌++◌, length, take}
+use Rattle.std.specs.Prelude.{ℕ, ◌≡◌, Bool, cond, List, [], ◌∷◌, ◌++◌, decimal, Option}
+use Rattle.std.specs.Io.KnownBytes.{Appends}
 use Rattle.io.specs.Digits.{last_digits, IsDigitCount}
 use Rattle.tally.specs.declared.Tally.{Tally}
 
@@ -30,14 +31,12 @@ pub record IsLine (t : Tally) (text : List ℕ) : Type 0 where
   pub mismatches : IsDecimal t.mismatches second
   pub is : text ≡ space ++ first ++ mismatches_word ++ second ++ ending t.cut_short
 
--- `after` begins with what `before` has up to `at`, then `text`; `next` is the place behind it, and lies within
-pub record Puts (before : List ℕ) (at : ℕ) (text after : List ℕ) (next : ℕ) : Type 0 where
-  pub behind : next ≡ at + length text
-  pub begins : take next after ≡ take at before ++ text
-  pub within : next ≤ length after
+-- the line, its numbers as std writes them
+unfoldable pub line_text : Tally → List ℕ
+line_text t = space ++ decimal t.records ++ mismatches_word ++ decimal t.mismatches ++ ending t.cut_short
 
--- the same for a number's text
-pub record PutsDecimal (before : List ℕ) (at n : ℕ) (after : List ℕ) (next : ℕ) : Type 0 where
+-- known bytes grow by a list's name and its line
+pub record AppendsLine (before after : Option (List ℕ)) (name : List ℕ) (t : Tally) : Type 0 where
   pub text : List ℕ
-  pub decimal : IsDecimal n text
-  pub puts : Puts before at text after next
+  pub is_line : IsLine t text
+  pub appends : Appends before after (name ++ text)

@@ -1,47 +1,48 @@
 // A list's line.
-ghost use Rattle.std.specs.Prelude.{◌+◌, ◌≤◌, length, take};
+ghost use Rattle.std.specs.Prelude.{◌≡◌, ◌++◌, take, OnOk};
 ghost use Rattle.io.specs.Counts.{IsPrefixLen};
-ghost use Rattle.vector_run.specs.Line.{IsLine, Puts, PutsDecimal};
+ghost use Rattle.vector_run.specs.Line.{AppendsLine, IsLine, line_text};
 
+use itoa::Buffer;
+use std::io;
+use std::io::Write;
 use tally::Tally;
+use text_pieces::Text;
+
+// Writes a list's name and its line.
+pub fn write_line<W: Write>(writer: &mut W, name: &str, tally: Tally) -> io::Result<()>
+    ensures { OnOk result (AppendsLine (W.contents writer.old) (W.contents writer.new) name.now tally) }
+{
+    // An array, since memory is fixed: its first n bytes are the line.
+    let mut text = [0; 80];
+    let n = line(tally, &mut text);
+    writer.write_all(name.as_bytes())?;
+    writer.write_all(&text[..n])
+}
 
 // Puts a list's line behind its name at the start of out, and answers how long it is: how many
 // records and mismatches, and whether its last record is cut short.
-#[tactic(auto, using(io::proofs::Counting::prefix_len_of_le, crate::proofs::Line::line_of))]
+#[tactic(auto, using(crate::proofs::Line::line_put))]
 pub fn line(tally: Tally, out: &mut [u8; 80]) -> usize
     ensures prefix_len { IsPrefixLen result out.new }
     ensures line { IsLine tally (take result out.new) }
 {
-    let at = put(out, 0, b" ");
-    let at = put_decimal(out, at, tally.records);
-    let at = put(out, at, b" mismatches ");
-    let at = put_decimal(out, at, tally.mismatches);
+    let mut text = Text::new();
+    push_line(&mut text, tally);
+    text.put(out)
+}
+
+#[tactic(auto, using(text_pieces::proofs::Growing::growing), unfolding(crate::specs::Line::line_text))]
+fn push_line<const N: usize>(text: &mut Text<N>, tally: Tally)
+    ensures { text.new ≡ take N (text.old ++ line_text tally) }
+{
+    text.push(b" ");
+    text.push(Buffer::new().format(tally.records).as_bytes());
+    text.push(b" mismatches ");
+    text.push(Buffer::new().format(tally.mismatches).as_bytes());
     if tally.cut_short {
-        put(out, at, b" and a record cut short\n")
+        text.push(b" and a record cut short\n");
     } else {
-        put(out, at, b"\n")
+        text.push(b"\n");
     }
-}
-
-// Puts a text at place `at` of out, and answers the place behind it.
-#[tactic(auto, using(std::proofs::lemmas::Slice::overwrites))]
-fn put(out: &mut [u8], at: usize, text: &[u8]) -> usize
-    requires { at + length text.now ≤ length out.old }
-    ensures { Puts out.old at text.now out.new result }
-{
-    let next = at + text.len();
-    out[at..next].copy_from_slice(text);
-    next
-}
-
-// A number in decimal.
-#[tactic(auto, using(crate::proofs::Digits::at_most_20))]
-fn put_decimal(out: &mut [u8; 80], at: usize, n: u64) -> usize
-    requires { at ≤ 60 }
-    ensures puts_decimal { PutsDecimal out.old at n out.new result }
-    ensures upper_bound { result ≤ at + 20 }
-{
-    let mut digits = [0u8; 20];
-    let k = io::decimal(n, &mut digits);
-    put(out, at, &digits[..k])
 }

@@ -18,6 +18,7 @@ pub struct Vision {
 }
 
 // What a tick answers, beside the vision as the tick leaves it.
+// Both by value, no `&mut` and no pair: document 01 has an answer struct beside the new state.
 #[derive(Clone, Copy)]
 pub struct VisionAnswer {
     pub action: GateAction,
@@ -58,6 +59,7 @@ impl Vision {
     }
 
     // One tick: the gate judges, and the clock moves.
+    // Three values from three places, handed on to the gate: a struct would only be taken apart there.
     #[tactic(auto, unfolding(crate::specs::Vision::vision_after))]
     pub fn update(self, sighting: Option<Vector3f>, predicted: Vector6f, dt: f32) -> VisionAnswer
         ensures { result ≡ vision_after self sighting predicted dt }

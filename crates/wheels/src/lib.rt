@@ -15,6 +15,7 @@ use vectors::sub;
 #[derive(Clone, Copy)]
 pub struct FinishOutputs {
     pub body_accel_out_fric_comp: Vector3f,
+    // A clamp mark: what was clamped counts either way, so no Option.
     pub accel_clamped: bool,
     pub wheel_vel_out: Vector4f,
     pub wheel_torque_out: Vector4f,
@@ -40,11 +41,10 @@ pub fn finish_outputs(
 {
     let accel = friction_compensated(heading, i, setpoints.body_accel);
     let clamp = clamp_accel(accel);
-    let value = clamp.value;
     FinishOutputs {
-        body_accel_out_fric_comp: value,
+        body_accel_out_fric_comp: clamp.value,
         accel_clamped: clamp.clamped,
         wheel_vel_out: i.twist2wheel.mul(setpoints.body_twist.into()).into(),
-        wheel_torque_out: i.accel2wheel.mul(value.into()).into(),
+        wheel_torque_out: i.accel2wheel.mul(clamp.value.into()).into(),
     }
 }

@@ -20,7 +20,6 @@ fn digits(x: f32) -> [u8; 8]
 }
 
 // A float, behind a space.
-#[tactic(auto, using(text_pieces::proofs::Growing::growing))]
 fn push_wheel<const N: usize>(text: &mut Text<N>, x: f32)
     ensures { text.new ≡ take N (text.old ++ field (hex x)) }
 {

@@ -5,9 +5,9 @@ use mathlib.Core.List.{[], ◌∷◌}
 use lib.Ieee.{Float, nan, inf, fin, binary32, add, mul, neg, of_bits}
 use Rattle.na.specs.declared.Vector3f.{Vector3f}
 use Rattle.matrices.specs.declared.rotation.Rotation.{Rotation}
-use Rattle.na.specs.Vector.{zero_float, vector3_of, dot_of, add_products}
+use Rattle.na.specs.Vector.{zero_float, one_float, vector3_of, dot_of, add_products}
 use Rattle.matrices.specs.Matrix.{product_of}
-use Rattle.matrices.specs.Rotation.{one_float, z_rotation, to_global, to_local}
+use Rattle.matrices.specs.Rotation.{z_rotation, to_global, to_local}
 
 -- by the opposite angle
 abbrev pub opposite : Rotation → Rotation

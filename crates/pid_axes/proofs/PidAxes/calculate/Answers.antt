@@ -1,25 +1,7 @@
--- Every entry of the vectors is an axis's. Assumes nothing.
-use Rattle.std.proofs.Common.{◌≡◌, ◌<◌, length, refl, arith}
-use Rattle.std.proofs.lemmas.List.{length-replicate}
-use Rattle.pid_axes.specs.Axes.{joined, calculated}
-use Rattle.pid_axes.proofs.Entries.{calculated_next, calculated_done}
+-- Every entry is an axis's answer. Assumes nothing.
+use Rattle.std.proofs.Common.{arith}
+use Rattle.pid_axes.proofs.Entries.{calculated_is}
 use Rattle.pid_axes.proofs.PidAxes.calculate.Goals as goal
 
-pub loop-i-preserved : goal.loop-i-preserved
-loop-i-preserved g c =
-    let s : length c.args.setpoint ≡ length c.args.self.axes = omega arith in
-    let v : length c.args.process_variable ≡ length c.args.self.axes = omega arith in
-    let i : c.loop-i.i < length c.args.self.axes = omega arith in (
-      calculated_next (λ a. a.output) _ _ _ _ _ _ _ _ _ _ _ _ s v (omega (arith, length-replicate g.row.N (lib.Ieee.of_bits lib.Ieee.binary32 0))) i c.loop-i.invariant.0 c.loop-i.invariant.1 c.calculate-answer.ensures,
-      calculated_next (λ a. a.controller) _ _ _ _ _ _ _ _ _ _ _ _ s v refl i c.loop-i.invariant.1 c.loop-i.invariant.1 c.calculate-answer.ensures,
-    )
-
 pub returns : goal.returns
-unfolding calculated joined
-returns g c =
-    let s : length c.args.setpoint ≡ length c.args.self.axes = omega arith in
-    let v : length c.args.process_variable ≡ length c.args.self.axes = omega arith in
-    let i : c.loop-i.i ≡ length c.args.self.axes = omega arith in
-    let o = calculated_done (λ a. a.output) _ _ _ _ _ _ _ s v (omega (arith, length-replicate g.row.N (lib.Ieee.of_bits lib.Ieee.binary32 0))) i c.loop-i.invariant.0 in
-    let a = calculated_done (λ a. a.controller) _ _ _ _ _ _ _ s v refl i c.loop-i.invariant.1 in
-    λ j. record { output = o j; controller = record { axes = a j } }
+returns g c = calculated_is c.args.self c.args.setpoint c.args.process_variable c.args.dt_s c.each.result (omega arith) (omega arith) (omega arith) (omega arith) (omega arith) c.each.ensures

@@ -1,18 +1,13 @@
 -- Every axis is reset. Assumes nothing.
-use Rattle.std.proofs.Common.{◌≡◌, ◌<◌, length, arith}
+use Rattle.std.proofs.Common.{ap, arith}
 use Rattle.pid.specs.Axis as axis
+use Rattle.pid_axes.specs.declared.PidAxes.{PidAxes}
 use Rattle.pid_axes.specs.Axes.{reset_of}
-use Rattle.pid_axes.proofs.Filled.{mapped_next, mapped_done}
+use Rattle.pid_axes.proofs.Mapped.{mapped}
 use Rattle.pid_axes.proofs.PidAxes.reset.Goals as goal
-
-pub loop-i-preserved : goal.loop-i-preserved
-loop-i-preserved g c =
-    let i : c.loop-i.i < length c.args.self.axes = omega arith in
-    mapped_next axis.reset_of _ _ _ _ _ i c.loop-i.invariant c.reset.ensures
 
 pub returns : goal.returns
 unfolding reset_of
 returns g c =
-    let i : c.loop-i.i ≡ length c.args.self.axes = omega arith in
-    let a = mapped_done axis.reset_of _ _ _ i c.loop-i.invariant in
-    λ j. record { axes = a j }
+    ap {B = PidAxes g.row.N} (λ axes. record { axes = axes })
+    (mapped axis.reset_of c.args.self.axes c.loop-axis.axis-items (omega (arith, c.loop-axis.invariant.0)) (λ k d e lt. c.loop-axis.invariant.1 k d e (omega (arith, lt, c.loop-axis-test.false))))

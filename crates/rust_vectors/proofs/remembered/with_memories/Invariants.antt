@@ -1,6 +1,6 @@
 -- The first i axes remember. Assumes nothing.
 use Rattle.std.proofs.Common.{◌≡◌}
-use Rattle.pid_axes.proofs.Filled.{filled}
+use Rattle.rust_vectors.proofs.Filled.{filled}
 use Rattle.rust_vectors.specs.Memory.{with_memories}
 use Rattle.rust_vectors.proofs.remembered.with_memories.Given as goal
 

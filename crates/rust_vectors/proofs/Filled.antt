@@ -1,7 +1,7 @@
 -- A list that a loop writes from its start on: its first i entries are another list's. Assumes nothing.
-use Rattle.std.proofs.Common.{◌≡◌, ℕ, zero, suc, ◌+◌, ◌<◌, List, [], ◌∷◌, length, get_or, map, refl, ap, ◌∙◌, sym, add-one, arith, not-suc-le-zero, le_of_suc-le-suc}
+use Rattle.std.proofs.Common.{◌≡◌, ℕ, zero, suc, ◌+◌, ◌<◌, List, [], ◌∷◌, length, get_or, refl, ap, add-one, arith, not-suc-le-zero, le_of_suc-le-suc}
 use Rattle.std.proofs.Math.ListN.{set}
-use Rattle.std.proofs.lemmas.List.{nil_from_length, length-map, get_or-map}
+use Rattle.std.proofs.lemmas.List.{nil_from_length}
 
 abbrev pub filled : {A : Type 0} → List A → List A → ℕ → List A
 filled xs ys zero = ys
@@ -33,12 +33,3 @@ filled_all [] ys (suc n) h k = absurd (omega arith)
 filled_all (x ∷ xs) ys zero h k = absurd (omega arith)
 filled_all (x ∷ xs) [] (suc n) h k = absurd (omega arith)
 filled_all (x ∷ xs) (y ∷ ys) (suc n) h k = ap (λ zs. x ∷ zs) (filled_all xs ys n (omega arith) (omega arith))
-
--- ---- a list whose entries a loop replaces by f of them
-
-pub mapped_next : {A : Type 0} (f : A → A) (xs zs : List A) (i : ℕ) (c x : A) → i < length xs → zs ≡ filled (map f xs) xs i → x ≡ f (get_or zs i c) → set zs i x ≡ filled (map f xs) xs (i + 1)
-mapped_next f xs zs i c x h e r =
-    filled_next (map f xs) xs zs i x x (omega (arith, length-map xs f)) h e (get_or-map f xs i c x h ∙ sym (r ∙ rw (e, filled_rest) refl))
-
-pub mapped_done : {A : Type 0} (f : A → A) (xs zs : List A) (i : ℕ) → i ≡ length xs → zs ≡ filled (map f xs) xs i → zs ≡ map f xs
-mapped_done f xs zs i h e = e ∙ filled_all (map f xs) xs i (length-map xs f ∙ sym h) (sym h)
