@@ -1,5 +1,5 @@
 -- The controller of any number of axes: what it answers is the list of answers of pid/specs/Axes.antt, its outputs and its controllers side by side. Assumes nothing.
-use Rattle.std.specs.Prelude.{ℕ, ◌<◌, List, [], ◌∷◌, map, Float, slice_index_or as get_or}
+use Rattle.std.specs.Prelude.{ℕ, ◌<◌, List, [], ◌∷◌, map, Float, slice_index_or}
 use Rattle.std.specs.Float.{nan}
 use Rattle.pid.specs.declared.PidController.{PidController}
 use Rattle.pid.specs.declared.PidAnswer.{PidAnswer}
@@ -22,14 +22,14 @@ calculated_with_derivative c s v d dt = joined (answers (asks_with_derivative s 
 unfoldable pub reset_of : {n : ℕ} → PidAxes n → PidAxes n
 reset_of c = record { axes = map axis.reset_of c.axes }
 
--- entry i
+-- entry i; nan stands where there is none, and none is asked for there
 abbrev pub entry_at : List Float → ℕ → Float
-entry_at xs i = get_or xs i nan
+entry_at xs i = slice_index_or xs i nan
 
 -- axis i answers by R of i, and its output and controller stand at i
 abbrev pub EachAnswer : (ℕ → PidController → PidAnswer → Type 0) → (n : ℕ) → PidAxes n → PidAxesAnswer n → Type 0
 EachAnswer R n c a =
-    (i : ℕ) (d e : PidController) (x : Float) → i < n → R i (get_or c.axes i d) (record { output = get_or a.output i x; controller = get_or a.controller.axes i e })
+    (i : ℕ) (d e : PidController) (x : Float) → i < n → R i (slice_index_or c.axes i d) (record { output = slice_index_or a.output i x; controller = slice_index_or a.controller.axes i e })
 
 -- ---- as a list of axes
 

@@ -6,7 +6,7 @@ use Rattle.rust_vectors.specs.Pids as pid
 use Rattle.rust_vectors.specs.Brake as brake
 use Rattle.rust_vectors.specs.Lag as lag
 
--- the words after a call, from the run's header, the call and the words before it; nothing where the header makes no part
+-- the words after a call, from the run's header, the call and the words before it; nothing where the header makes no brake or lag
 unfoldable pub step_of : ListOf → List ℕ → List ℕ → List ℕ → Option (List ℕ)
 step_of list.Pid1 h s ws = Some (pid.step 1 h s ws)
 step_of list.Pid3 h s ws = Some (pid.step 3 h s ws)

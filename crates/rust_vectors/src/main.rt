@@ -65,8 +65,8 @@ fn step(list: ListOf, call: Call<'_>) -> Option<[u32; 12]>
     }
 }
 
-// rt and list go from run to run_call as they are: a struct of the two would be no plainer.
 // Reads one call, and makes it. The words stay where it has no answer.
+// rt and list go from run to run_call as they are: a struct of the two would be no plainer.
 fn run_call(
     rt: &HostRuntime,
     list: ListOf,
