@@ -19,7 +19,7 @@ from unproved import Kit
 TICKS = 400_000
 # file, old text, new text: both keep what the line needs alive.
 NO_TEXT = (
-    "driven_text/src/lib.rt",
+    "drive_text/src/driven.rt",
     "    let len = write_line(&mut buf, line);\n",
     "    let len = one_byte(&mut buf, line);\n",
     """

@@ -1,4 +1,4 @@
-"""Writes crates/root_table/src/lib.rt: python3 tools/root_table.py > crates/root_table/src/lib.rt && rt fmt
+"""Writes crates/ieee754/src/table.rt: python3 tools/root_table.py > crates/ieee754/src/table.rt && rt fmt
 
 For each last digit of an exponent's field and each interval of 2^18 significands from 2^23 to 2^24, a cubic near the root of
 m * 2^23 or, where the digit is 0, m * 2^24, by the distance d of m from the interval's start, in whole numbers. Each
@@ -40,7 +40,6 @@ def function(name, ensures, entries, comment):
 print('''// The cubics of sqrt's first guess at a root, one for each last digit of an exponent's field and
 // each of 32 intervals of significands. Only speed rests on these numbers; the contracts keep the
 // guess's differences and products in range. tools/root_table.py writes this file.
-#![tactic(auto)]
 
 ghost use Rattle.std.specs.Prelude.{◌%◌, ◌^◌, ◌≤◌, ◌<◌};''')
 values, slopes = zip(*map(cubic, range(64)))

@@ -1,2 +1,3 @@
--- What is shown of the brake's definitions. Assumes nothing.
+-- Document 01's starred cases. Assumes nothing.
 pub mod Cases
+pub mod WheelCases

@@ -5,8 +5,8 @@ use Rattle.na.specs.declared.Vector4f.{Vector4f}
 use Rattle.na.specs.Vector.{zero_float, entries4, vector4_of}
 use Rattle.refusal.specs.declared.Refusal.{Refusal}
 use Rattle.tick_length.specs.TickLength.{tick_length_of, seconds_of}
-use Rattle.brake_wheel.specs.Wheel.{wheel_controller}
-use Rattle.pid_axes.specs.Axes.{calculated, reset_of}
+use Rattle.active_brake.specs.Wheel.{wheel_controller}
+use Rattle.pid.specs.PidAxes.{calculated, reset_of}
 use Rattle.active_brake.specs.declared.ActiveBrakeController.{ActiveBrakeController}
 use Rattle.active_brake.specs.declared.BrakeAnswer.{BrakeAnswer}
 

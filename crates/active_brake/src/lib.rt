@@ -1,14 +1,16 @@
 // active_brake.rs: each wheel is driven to rest by a P controller on its measured speed.
 #![tactic(auto)]
 
+pub mod wheel; // wheel.rt: the controller of one wheel
+
 ghost use Rattle.std.specs.Prelude.{◌≡◌};
 ghost use Rattle.refusal.specs.Refusal.{number_of};
 ghost use Rattle.tick_length.specs.TickLength.{refusal_of};
 ghost use Rattle.active_brake.specs.Brake.{brake_of, new_brake, computed, reset_brake};
 
-use brake_wheel::wheel_controller;
+use crate::wheel::wheel_controller;
 use na::Vector4f;
-use pid_axes::PidAxes;
+use pid::axes::PidAxes;
 use refusal::Refusal;
 use tick_length::TickLength;
 

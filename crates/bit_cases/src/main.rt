@@ -3,9 +3,9 @@
 // length up to 1,024 bytes. Of each a glyph is printed.
 #![tactic(auto)]
 
-use block_words::word_at;
+use blocks::words::word_at;
 use drive_blocks::drive;
-use drive_pass::Pass;
+use drive_blocks::pass::Pass;
 use full_read::read_full;
 use line_text::Line;
 use std::io;

@@ -4,9 +4,9 @@ use Rattle.refusal.specs.declared.Refusal.{Refusal}
 use Rattle.refusal.specs.declared.Refusal.TheVariants as Why
 use Rattle.cmd.specs.declared.ManeuverCommand.{ManeuverCommand}
 use Rattle.cmd.specs.Command.{is_mode, command_from}
-use Rattle.plan_answer.specs.declared.PlanAnswer.{PlanAnswer}
-use Rattle.context_plan.specs.declared.Decided.{Decided}
-use Rattle.context_plan.specs.Plan.{decided_on}
+use Rattle.maneuvers.specs.declared.answer.PlanAnswer.{PlanAnswer}
+use Rattle.context.specs.declared.plan.Decided.{Decided}
+use Rattle.context.specs.Plan.{decided_on}
 use Rattle.inputs.specs.declared.PlanInput.{PlanInput}
 use Rattle.body_controller.specs.declared.BodyController.{BodyController}
 use Rattle.body_controller.specs.declared.Called.{Called}

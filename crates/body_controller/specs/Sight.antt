@@ -2,9 +2,9 @@
 use Rattle.std.specs.Prelude.{ℕ, ◌+◌, ◌%◌, ◌^◌, cond, nat_lt, Ok}
 use Rattle.refusal.specs.declared.Refusal.TheVariants as Why
 use Rattle.tick_length.specs.TickLength.{seconds_of}
-use Rattle.gate.specs.Gate.{sighting_of}
-use Rattle.context_sight.specs.declared.Seen.{Seen}
-use Rattle.context_sight.specs.Sight.{seen}
+use Rattle.vision.specs.Gate.{sighting_of}
+use Rattle.context.specs.declared.sight.Seen.{Seen}
+use Rattle.context.specs.Sight.{seen}
 use Rattle.inputs.specs.declared.SightInput.{SightInput}
 use Rattle.call_answers.specs.declared.Sighted.{Sighted}
 use Rattle.call_answers.specs.Sight.{sight_answer}

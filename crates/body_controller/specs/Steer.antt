@@ -7,11 +7,11 @@ use Rattle.body_controller.specs.declared.Called.{Called}
 use Rattle.body_controller.specs.declared.Turn.TheVariants as Turns
 use Rattle.tick_length.specs.TickLength.{seconds_of}
 use Rattle.na.specs.declared.Vector3f.{Vector3f}
-use Rattle.plan_answer.specs.Answer.{needs_plan}
+use Rattle.maneuvers.specs.Answer.{needs_plan}
 use Rattle.context.specs.declared.Planned.{Planned}
 use Rattle.context.specs.Context as Context
-use Rattle.context_steer.specs.declared.Tracked.{Tracked}
-use Rattle.context_steer.specs.Steer as Context'
+use Rattle.context.specs.declared.steer.Tracked.{Tracked}
+use Rattle.context.specs.Steer as Context'
 use Rattle.inputs.specs.declared.SteerInput.{SteerInput}
 use Rattle.call_answers.specs.Steer.{limited}
 use Rattle.body_controller.specs.Controller.{turned_to, refused}

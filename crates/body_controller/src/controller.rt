@@ -4,7 +4,7 @@ ghost use Rattle.refusal.specs.Refusal.{number_of};
 ghost use Rattle.tick_length.specs.TickLength.{refusal_of};
 ghost use Rattle.tick.specs.Outputs.{no_outputs};
 ghost use Rattle.vision.specs.Vision.{active};
-ghost use Rattle.divergence.specs.Divergence.{is_recovering};
+ghost use Rattle.tracking.specs.Divergence.{is_recovering};
 ghost use Rattle.body_controller.specs.Controller.{started, new_of, reset_of, refused};
 
 use crate::{BodyController, Called, Choices, Turn};

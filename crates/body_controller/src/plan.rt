@@ -6,9 +6,9 @@ ghost use Rattle.body_controller.specs.Plan.{planned, plan_of, plan_refusal};
 use crate::{BodyController, Called, Turn};
 use cmd::ManeuverCommand;
 use context::Planned;
-use context_plan::{Decided, decide_on};
+use context::plan::{Decided, decide_on};
 use inputs::PlanInput;
-use plan_answer::PlanAnswer;
+use maneuvers::answer::PlanAnswer;
 use refusal::Refusal;
 
 impl BodyController {

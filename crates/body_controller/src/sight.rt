@@ -6,7 +6,7 @@ ghost use Rattle.body_controller.specs.Sight.{sighted, sight_of, sight_refusal};
 use crate::{BodyController, Called, Turn};
 use call_answers::Sighted;
 use call_answers::sight::sight_answer;
-use context_sight::{Seen, see};
+use context::sight::{Seen, see};
 use inputs::SightInput;
 use refusal::Refusal;
 

@@ -7,7 +7,7 @@ use crate::{BodyController, Called, Turn};
 use call_answers::Limited;
 use call_answers::steer::limit;
 use context::Planned;
-use context_steer::{Tracked, steer};
+use context::steer::{Tracked, steer};
 use inputs::SteerInput;
 use na::Vector3f;
 use refusal::Refusal;

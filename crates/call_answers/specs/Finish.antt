@@ -1,7 +1,7 @@
 -- Finish's answer, document 01, 'The tick's four calls'. Assumes nothing.
 use Rattle.std.specs.Prelude.{Bool}
-use Rattle.wheels.specs.declared.FinishOutputs.{FinishOutputs}
-use Rattle.wheels.specs.Outputs.{finish_outputs}
+use Rattle.call_answers.specs.declared.wheels.FinishOutputs.{FinishOutputs}
+use Rattle.call_answers.specs.Outputs.{finish_outputs}
 use Rattle.inputs.specs.declared.FinishInput.{FinishInput}
 use Rattle.call_answers.specs.declared.Steered.{Steered}
 use Rattle.call_answers.specs.declared.Finished.{Finished}

@@ -1,7 +1,7 @@
 -- Sight's answer, document 01, 'The tick's four calls'. Assumes nothing.
-use Rattle.gate_action.specs.declared.GateAction.{GateAction}
-use Rattle.gate_action.specs.Outcome.{takes}
-use Rattle.prediction.specs.Prediction.{predicted_after}
+use Rattle.tick.specs.declared.action.GateAction.{GateAction}
+use Rattle.tick.specs.Outcome.{takes}
+use Rattle.call_answers.specs.Prediction.{predicted_after}
 use Rattle.inputs.specs.declared.SightInput.{SightInput}
 use Rattle.call_answers.specs.declared.Sighted.{Sighted}
 

@@ -1,11 +1,11 @@
 -- Steer's limits and the friction twist, document 01, 'The tick's four calls'. Assumes nothing.
 use Rattle.std.specs.Prelude.{Bool}
 use Rattle.na.specs.declared.Vector6f.{Vector6f}
-use Rattle.matrices.specs.declared.rotation.Rotation.{Rotation}
+use Rattle.linear.specs.declared.rotation.Rotation.{Rotation}
 use Rattle.setpoints.specs.declared.ManeuverSetpoints.{ManeuverSetpoints}
-use Rattle.stop.specs.Stop.{stop_scaled}
-use Rattle.limits.specs.Limits.{twist_clamped}
-use Rattle.friction.specs.Friction.{friction_twist}
+use Rattle.tracking.specs.Stop.{stop_scaled}
+use Rattle.tracking.specs.Clamped.{twist_clamped}
+use Rattle.tracking.specs.Friction.{friction_twist}
 use Rattle.call_answers.specs.declared.Limited.{Limited}
 
 -- stop, the twist's clamp, and the friction twist of what they leave

@@ -2,10 +2,10 @@
 ghost use Rattle.std.specs.Prelude.{◌≡◌};
 ghost use Rattle.call_answers.specs.Finish.{finished_by};
 
+use crate::wheels::finish_outputs;
 use crate::{Finished, Steered};
 use inputs::FinishInput;
 use tick::Outputs;
-use wheels::finish_outputs;
 
 // The outputs that steer's setpoints give, and the marks.
 #[tactic(auto, unfolding(crate::specs::Finish::finished_by))]

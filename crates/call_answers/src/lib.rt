@@ -3,14 +3,16 @@
 #![tactic(auto)]
 
 pub mod finish; // finish.rt: the outputs and the marks
+pub mod prediction; // prediction.rt: what C and J overwrite
 pub mod sight; // sight.rt: measurement and predicted state
 pub mod steer; // steer.rt: the twist's limits and the friction twist
+pub mod wheels; // wheels.rt: wheel speeds and torques
 
-use gate_action::GateAction;
-use matrices::rotation::Rotation;
+use linear::rotation::Rotation;
 use na::{Vector3f, Vector4f, Vector6f};
 use setpoints::ManeuverSetpoints;
 use tick::Outputs;
+use tick::action::GateAction;
 
 // The estimator's eight numbers.
 #[derive(Clone, Copy)]

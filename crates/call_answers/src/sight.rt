@@ -2,10 +2,10 @@
 ghost use Rattle.std.specs.Prelude.{◌≡◌};
 ghost use Rattle.call_answers.specs.Sight.{sight_answer};
 
+use crate::prediction::predict_after;
 use crate::{Measurement, Sighted};
-use gate_action::GateAction;
 use inputs::SightInput;
-use prediction::predict_after;
+use tick::action::GateAction;
 
 #[tactic(auto, unfolding(crate::specs::Sight::sight_answer))]
 pub fn sight_answer(action: GateAction, i: SightInput) -> Sighted

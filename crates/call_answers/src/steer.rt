@@ -3,12 +3,12 @@ ghost use Rattle.std.specs.Prelude.{◌≡◌};
 ghost use Rattle.call_answers.specs.Steer.{limited};
 
 use crate::{Limited, Steered};
-use friction::friction_twist;
-use limits::clamp_twist;
-use matrices::rotation::Rotation;
+use linear::rotation::Rotation;
 use na::Vector6f;
 use setpoints::ManeuverSetpoints;
-use stop::stop_scaled;
+use tracking::friction::friction_twist;
+use tracking::limits::clamp_twist;
+use tracking::stop::stop_scaled;
 
 // The tick's setpoints, limited, and the friction twist.
 #[tactic(auto, unfolding(crate::specs::Steer::limited))]

@@ -1,16 +1,16 @@
 -- The starred cases hold: each crate computed its own. Assumes nothing.
 use Rattle.std.proofs.Common.{◌≡◌, ℕ, Bool, true, false, ◌&&◌, T, eqb, refl, eqb-true}
-use Rattle.float_root.proofs.Cases as Root
-use Rattle.float_remainder.proofs.Cases as Remainder
-use Rattle.float_hypot.proofs.Cases as Hypot
+use Rattle.ieee754.proofs.RootCases as Root
+use Rattle.ieee754.proofs.RemainderCases as Remainder
+use Rattle.ieee754.proofs.HypotCases as Hypot
 use Rattle.tick_length.specs.TickLength.{is_tick_length, tick_length_of}
 use Rattle.tick_length.proofs.Cases as Length
 use Rattle.active_brake.specs.Brake.{brake_of}
-use Rattle.brake_wheel.proofs.Cases as Wheel
-use Rattle.encoder_lag.specs.EncoderLag.{lag_of}
-use Rattle.encoder_lag.proofs.Cases as Lag
+use Rattle.active_brake.proofs.WheelCases as Wheel
+use Rattle.first_order_lag.specs.EncoderLag.{lag_of}
+use Rattle.first_order_lag.proofs.EncoderCases as Lag
 use Rattle.vision.proofs.Cases as Gate
-use Rattle.limits.proofs.Cases as Limits
+use Rattle.tracking.proofs.ClampedCases as Limits
 use Rattle.body_controller.specs.Controller.{new_of}
 use Rattle.cases.specs.Starred.{float, current_bits, NumberFor, Starred}
 

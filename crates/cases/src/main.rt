@@ -5,11 +5,11 @@
 
 mod limit; // limit.rt: a pass of 16,777,217 blocks
 
-use drive_pass::Pass;
+use drive_blocks::pass::Pass;
 use drive_text::drive_block;
-use driven_text::Written;
+use drive_text::driven::Written;
+use drive_text::last::write_last;
 use full_read::read_full;
-use last_text::write_last;
 use limit::drive_to_limit;
 use std::io;
 

@@ -3,7 +3,7 @@ use Rattle.std.specs.Prelude.{true}
 use Rattle.na.specs.declared.Vector6f.{Vector6f}
 use Rattle.vision.specs.Vision.{new_vision}
 use Rattle.memory.specs.Memory.{empty_memory, trajectory_dropped}
-use Rattle.divergence.specs.declared.TrackingDivergenceState.TheVariants.{Normal}
+use Rattle.tracking.specs.declared.divergence.TrackingDivergenceState.TheVariants.{Normal}
 use Rattle.setpoints.specs.Setpoints.{empty_pid}
 use Rattle.context.specs.declared.ControlContext.{ControlContext}
 

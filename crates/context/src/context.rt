@@ -3,10 +3,10 @@ ghost use Rattle.std.specs.Prelude.{◌≡◌};
 ghost use Rattle.context.specs.Context.{new_context, context_reset, planner_failed};
 
 use crate::ControlContext;
-use divergence::TrackingDivergenceState;
 use memory::Memory;
 use na::Vector6f;
 use setpoints::EMPTY_PID;
+use tracking::divergence::TrackingDivergenceState;
 use vision::Vision;
 
 impl ControlContext {

@@ -1,16 +1,19 @@
 // `ControlContext` by value: what the tick's calls keep from tick to tick. The work of sight, plan and
-// steer on it is `context_sight`'s, `context_plan`'s and `context_steer`'s. Whose turn it is, and what is
-// refused, is `body_controller`'s.
+// steer on it stands in the modules of their names. Whose turn it is, and what is refused, is
+// `body_controller`'s.
 #![tactic(auto)]
 
 pub mod context; // context.rt: a new context, a reset, a planner failure
+pub mod plan; // plan.rt: plan's work: the estimate and the decision
+pub mod sight; // sight.rt: sight's work: the gate judges
+pub mod steer; // steer.rt: steer's work: setpoints, then recovery
 
 use cmd::ManeuverCommand;
-use divergence::TrackingDivergenceState;
+use maneuvers::answer::PlanAnswer;
 use memory::Memory;
 use na::Vector6f;
-use plan_answer::PlanAnswer;
 use setpoints::PidMemory;
+use tracking::divergence::TrackingDivergenceState;
 use vision::Vision;
 
 #[derive(Clone, Copy)]

@@ -4,16 +4,16 @@ use Rattle.std.specs.Result.{result_and, result_map_both}
 use Rattle.refusal.specs.declared.Refusal.{Refusal}
 use Rattle.refusal.specs.declared.Refusal.TheVariants as Why
 use Rattle.refusal.specs.Refusal.{refusal_number}
-use Rattle.block_order.specs.Order.{order_tested}
+use Rattle.blocks.specs.Order.{order_tested}
 use Rattle.body_controller.specs.declared.BodyController.{BodyController}
 use Rattle.body_controller.specs.Controller.{new_of}
 use Rattle.tick_block.specs.declared.TickBlock.{TickBlock}
 use Rattle.tick_block.specs.Block.{block_read}
-use Rattle.drive_pass.specs.declared.Driven.{Driven}
-use Rattle.drive_pass.specs.declared.Pass.{Pass}
-use Rattle.drive_pass.specs.declared.Pass.TheVariants.{Empty, Driving}
-use Rattle.drive_pass.specs.Pass.{refused_by}
-use Rattle.tick_calls.specs.Tick.{ticked}
+use Rattle.drive_blocks.specs.declared.pass.Driven.{Driven}
+use Rattle.drive_blocks.specs.declared.pass.Pass.{Pass}
+use Rattle.drive_blocks.specs.declared.pass.Pass.TheVariants.{Empty, Driving}
+use Rattle.drive_blocks.specs.Pass.{refused_by}
+use Rattle.drive_blocks.specs.Tick.{ticked}
 
 -- a tick on the block's inputs: its line, and its controller for the pass
 unfoldable pub ticked_on : BodyController → TickBlock → Driven

@@ -1,2 +1,4 @@
--- What the contracts of `drive_blocks` cite. Assumes nothing.
+-- What the contracts of `drive_blocks` cite. Definitions only. Assumes nothing.
 pub mod Blocks
+pub mod Pass
+pub mod Tick

@@ -1,15 +1,18 @@
 // Blocks given to a pass one after the other, each with its line.
 #![tactic(auto)]
 
+pub mod calls; // calls.rt: a tick's four calls and its line
+pub mod pass; // pass.rt: a pass, its numbers, and a refused block's line
+
 ghost use Rattle.std.specs.Prelude.{◌≡◌};
 ghost use Rattle.drive_blocks.specs.Blocks.{ticked_on, driver_of, taken, driven};
 
-use block_order::order_tested;
+use crate::calls::{Ticked, drive_tick};
+use crate::pass::{Driven, Pass};
+use blocks::order::order_tested;
 use body_controller::BodyController;
-use drive_pass::{Driven, Pass};
 use refusal::Refusal;
 use tick_block::{TickBlock, read};
-use tick_calls::{Ticked, drive_tick};
 
 // A tick on the block's inputs.
 #[tactic(auto, unfolding(crate::specs::Blocks::ticked_on))]

@@ -9,9 +9,9 @@ use lib.ListN.{length, take, drop, length-append, length-drop, drop_of_length-le
 use lib.Seq.{take-nil, take_all, take-add, drop-nil, drop-drop, drop_at, take-append-le, drop-append-le}
 use Rattle.line_text.specs.declared.Line.{Line}
 use Rattle.line_text.specs.Text.{line_text}
-use Rattle.drive_pass.specs.declared.Pass.{Pass}
+use Rattle.drive_blocks.specs.declared.pass.Pass.{Pass}
 use Rattle.drive_blocks.specs.Blocks.{driven}
-use Rattle.driven_text.specs.Written.{is_refused}
+use Rattle.drive_text.specs.Driven.{is_refused}
 use Rattle.drive_text.specs.Batch.{first_block, behind_first, Batched, nothing, one_block, then, batch_of, whole_of, text_of}
 use Rattle.drive_text.specs.BatchLaws.{RoomIsEnough, BatchesJoin, TextsJoin, NoByteLost}
 

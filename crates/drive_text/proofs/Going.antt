@@ -11,10 +11,10 @@ use Rattle.std.proofs.lemmas.List.{take_min, drop_min, nil_from_length}
 use Rattle.std.proofs.Common.{rules}
 use borrow.Author.Tests.{tests}
 use Rattle.line_text.specs.Text.{line_text}
-use Rattle.drive_pass.specs.declared.Pass.{Pass}
+use Rattle.drive_blocks.specs.declared.pass.Pass.{Pass}
 use Rattle.drive_blocks.specs.Blocks.{driven}
-use Rattle.driven_text.specs.Written.{behind, end_of, written_behind}
-use Rattle.driven_text.specs.declared.Written.{Written}
+use Rattle.drive_text.specs.Driven.{behind, end_of, written_behind}
+use Rattle.drive_text.specs.declared.driven.Written.{Written}
 use Rattle.drive_text.specs.Written.{written, block_text}
 use Rattle.drive_text.specs.Batch.{first_block, behind_first, Batched, nothing, one_block, then, batch_of, batch_into, text_of, answer_of}
 use Rattle.drive_text.proofs.Batches.{then-nothing, then_assoc, step, text_of_append}

@@ -2,10 +2,10 @@
 use Rattle.std.specs.Prelude.{ℕ, zero, suc, ◌/◌, Bool, false, cond, List, [], ◌∷◌, ◌++◌, length, take, drop}
 use Rattle.line_text.specs.declared.Line.{Line}
 use Rattle.line_text.specs.Text.{line_text}
-use Rattle.drive_pass.specs.declared.Pass.{Pass}
+use Rattle.drive_blocks.specs.declared.pass.Pass.{Pass}
 use Rattle.drive_blocks.specs.Blocks.{driven}
-use Rattle.driven_text.specs.declared.Written.{Written}
-use Rattle.driven_text.specs.Written.{is_refused}
+use Rattle.drive_text.specs.declared.driven.Written.{Written}
+use Rattle.drive_text.specs.Driven.{is_refused}
 
 -- the first block of the bytes, shorter than 512 where they are, and what stands behind it
 unfoldable pub first_block : List ℕ → List ℕ

@@ -2,7 +2,7 @@
 -- proofs/Batches.antt. Assumes nothing.
 use Rattle.std.specs.Prelude.{ℕ, ◌*◌, ◌≤◌, ◌≡◌, false, length, List, ◌++◌}
 use mathlib.Core.List.{flatten}
-use Rattle.drive_pass.specs.declared.Pass.{Pass}
+use Rattle.drive_blocks.specs.declared.pass.Pass.{Pass}
 use Rattle.drive_text.specs.Batch.{then, batch_of, whole_of, text_of}
 
 -- a batch with room for all of the bytes' blocks drives all of them

@@ -2,3 +2,4 @@
 pub mod Written
 pub mod Batch
 pub mod BatchLaws
+pub mod Driven

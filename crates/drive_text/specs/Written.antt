@@ -1,10 +1,10 @@
 -- A block's line as text, beside the pass that the block leaves: document 01, 'Cases', program `drive`. Assumes nothing.
 use Rattle.std.specs.Prelude.{ℕ, List, length}
 use Rattle.line_text.specs.Text.{line_text}
-use Rattle.drive_pass.specs.declared.Pass.{Pass}
+use Rattle.drive_blocks.specs.declared.pass.Pass.{Pass}
 use Rattle.drive_blocks.specs.Blocks.{driven}
-use Rattle.driven_text.specs.declared.Written.{Written}
-use Rattle.driven_text.specs.Written.{is_refused}
+use Rattle.drive_text.specs.declared.driven.Written.{Written}
+use Rattle.drive_text.specs.Driven.{is_refused}
 
 -- the text of a block's line
 unfoldable pub block_text : Pass → List ℕ → List ℕ

@@ -1,18 +1,21 @@
 // A pass and a lent block in, the next pass and its line of text out; the same for a batch of blocks.
 #![tactic(auto)]
 
+pub mod driven; // driven.rt: a driven block's line behind other text
+pub mod last; // last.rt: the last line of a pass
+
 ghost use Rattle.std.specs.Prelude.{◌++◌, ◌≡◌, ◌≤◌, length, drop};
-ghost use Rattle.text_pieces.specs.Puts.{Within};
+ghost use Rattle.line_text.specs.Puts.{Within};
 ghost use Rattle.drive_text.specs.Written.{written, block_text};
 ghost use Rattle.drive_text.specs.Batch.{text_of, batch_into, answer_of};
 
+use crate::driven::{Written, write_driven};
 use drive_blocks::drive;
-use drive_pass::Pass;
-use driven_text::{Written, write_driven};
+use drive_blocks::pass::Pass;
 
 // Drives a block, and puts its line at the start of buf; what stands behind the line stays.
 // Each writer of a line has these clauses: a name for the three would hide which bytes stand where.
-#[tactic(auto, unfolding(crate::specs::Written::written, crate::specs::Written::block_text, driven_text::specs::Written::written_behind, driven_text::specs::Written::end_of, driven_text::specs::Written::behind))]
+#[tactic(auto, unfolding(crate::specs::Written::written, crate::specs::Written::block_text, crate::specs::Driven::written_behind, crate::specs::Driven::end_of, crate::specs::Driven::behind))]
 pub fn drive_block(pass: Pass, block: &[u8], buf: &mut [u8; 128]) -> Written
     ensures value { result ≡ written pass block.now }
     ensures buf_after { buf.new ≡ block_text pass block.now ++ drop (length (block_text pass block.now)) buf.old }

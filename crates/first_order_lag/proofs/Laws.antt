@@ -2,7 +2,7 @@
 use mathlib.Core.Path.{◌≡◌, refl}
 use Rattle.na.specs.declared.Vector2f.{Vector2f}
 use Rattle.first_order_lag.specs.declared.FirstOrderLag.{FirstOrderLag}
-use Rattle.lag_axis.specs.Axis.{iterated, axis_invert}
+use Rattle.first_order_lag.specs.Axis.{iterated, axis_invert}
 use Rattle.first_order_lag.specs.FirstOrderLag.{axis, reset_of, stepped_of, inverted_of}
 
 -- nothing but the state has changed

@@ -2,9 +2,9 @@
 use Rattle.std.specs.Prelude.{Float}
 use Rattle.na.specs.declared.Vector2f.{Vector2f}
 use Rattle.na.specs.Vector.{zeros2}
-use Rattle.lag_axis.specs.declared.Axis.{Axis}
+use Rattle.first_order_lag.specs.declared.axis.Axis.{Axis}
 use Rattle.first_order_lag.specs.declared.FirstOrderLag.{FirstOrderLag}
-use Rattle.lag_axis.specs.Axis.{axis_step, axis_invert}
+use Rattle.first_order_lag.specs.Axis.{axis_step, axis_invert}
 
 -- each axis has its own gain, slope and state
 unfoldable pub axis : FirstOrderLag → Float → Float → Float → Axis

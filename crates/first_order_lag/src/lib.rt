@@ -1,10 +1,13 @@
 // `FirstOrderLag` of lib-stm32's model/mod.rs over two axes, by value.
 #![tactic(auto)]
 
+pub mod axis; // axis.rt: the lag on one axis
+pub mod encoder; // encoder.rt: the encoder lag of a tick length
+
 ghost use Rattle.std.specs.Prelude.{◌≡◌, [], ◌∷◌};
 ghost use Rattle.first_order_lag.specs.FirstOrderLag.{axis, x_axis, y_axis, reset_of, stepped_of, inverted_of};
 
-use lag_axis::Axis;
+use crate::axis::Axis;
 use na::{Vector2f, ZEROS_2};
 
 #[derive(Clone, Copy)]

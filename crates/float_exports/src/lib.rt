@@ -3,16 +3,16 @@
 
 ghost use Rattle.std.specs.Prelude.{◌≡◌};
 ghost use Rattle.std.specs.Float.{binary32};
-ghost use Rattle.float_root.specs.Root.{square_root};
-ghost use Rattle.float_remainder.specs.Remainder.{remainder_by, tau};
-ghost use Rattle.float_hypot.specs.Hypot.{hypotenuse};
+ghost use Rattle.ieee754.specs.Root.{square_root};
+ghost use Rattle.ieee754.specs.Remainder.{remainder_by, tau};
+ghost use Rattle.ieee754.specs.Hypot.{hypotenuse};
 
 // sqrtf(x).
 #[unsafe(no_mangle)]
 pub extern "C" fn ieee754_sqrt(x: f32) -> f32
     ensures { result ≡ square_root binary32 x }
 {
-    float_root::sqrt(x)
+    ieee754::root::sqrt(x)
 }
 
 // remainderf(x, 2.0 * PI).
@@ -20,7 +20,7 @@ pub extern "C" fn ieee754_sqrt(x: f32) -> f32
 pub extern "C" fn ieee754_remainder(x: f32) -> f32
     ensures { result ≡ remainder_by binary32 x tau }
 {
-    float_remainder::remainder(x)
+    ieee754::remainder::remainder(x)
 }
 
 // hypotf(x, y), by document 01's stand-in.
@@ -28,5 +28,5 @@ pub extern "C" fn ieee754_remainder(x: f32) -> f32
 pub extern "C" fn ieee754_hypot(x: f32, y: f32) -> f32
     ensures { result ≡ hypotenuse x y }
 {
-    float_hypot::hypot(x, y)
+    ieee754::hypot::hypot(x, y)
 }

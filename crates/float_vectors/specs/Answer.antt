@@ -2,8 +2,8 @@
 use Rattle.std.specs.Prelude.{ℕ, Float}
 use Rattle.std.specs.Float.{binary32}
 use Rattle.std.specs.Float.Ieee.{add, sub, to_bits, of_bits}
-use Rattle.float_root.specs.Root.{square_root}
-use Rattle.float_remainder.specs.Remainder.{remainder_by, tau}
+use Rattle.ieee754.specs.Root.{square_root}
+use Rattle.ieee754.specs.Remainder.{remainder_by, tau}
 
 abbrev pub square_root_of : Float → Float
 square_root_of x = square_root binary32 x

@@ -1,7 +1,7 @@
 -- Records of a block of bytes: an argument and the answer wanted, a word each. Assumes nothing.
 use Rattle.std.specs.Prelude.{ℕ, ◌+◌, ◌*◌, ◌/◌, Bool, not, List, length, map, ◌==◌, Float}
 use Rattle.std.specs.List.{range_with_len}
-use Rattle.block_words.specs.Word.{word_at}
+use Rattle.blocks.specs.Word.{word_at}
 use Rattle.float_vectors.specs.declared.record.Record.{Record}
 use Rattle.float_vectors.specs.Answer.{answer_of}
 

@@ -2,9 +2,9 @@
 ghost use Rattle.std.specs.Prelude.{◌≡◌, Float};
 ghost use Rattle.float_vectors.specs.Answer.{answer_of, square_root_of, remainder_of, itself, twice, difference};
 
-use float_bits::{from_bits, to_bits};
-use float_remainder::remainder;
-use float_root::sqrt;
+use ieee754::bits::{from_bits, to_bits};
+use ieee754::remainder::remainder;
+use ieee754::root::sqrt;
 
 // What a list makes of each argument.
 pub trait Operation {

@@ -10,8 +10,8 @@ use answer::{Difference, Operation, Remainder, Root, Twice, Word};
 use full_read::read_full;
 use std::fs::File;
 use std::io;
-use tally::Tally;
 use vector_run::report::write_line;
+use vector_run::tally::Tally;
 
 // Reads one block of a list, and adds its records and mismatches to `tally`.
 fn run_block<O: Operation>(rt: &HostRuntime, list: &mut File, tally: Tally) -> io::Result<Tally> {

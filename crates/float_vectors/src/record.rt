@@ -3,7 +3,7 @@ ghost use Rattle.std.specs.Prelude.{◌≡◌, ◌/◌, ◌<◌, length, count_b
 ghost use Rattle.float_vectors.specs.Record.{record_at, records_of, is_mismatch};
 
 use crate::answer::{Operation, answer};
-use block_words::word_at;
+use blocks::words::word_at;
 
 #[derive(Clone, Copy)]
 pub struct Record {

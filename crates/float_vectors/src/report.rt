@@ -2,7 +2,7 @@
 use crate::answer::{Operation, answer};
 use crate::record::Record;
 use std::io;
-use tally::Tally;
+use vector_run::tally::Tally;
 
 // The argument, the answer to it and the answer wanted, in hex.
 fn show_record<O: Operation>(rt: &HostRuntime, record: Record) -> io::Result<()> {

@@ -2,8 +2,8 @@
 #![tactic(auto)]
 
 use cmd::CommandWords;
-use matrices::rotation::Rotation;
-use matrices::{Matrix3, Matrix3x4, Matrix4x3};
+use linear::rotation::Rotation;
+use linear::{Matrix3, Matrix3x4, Matrix4x3};
 use memory::Sample;
 use na::{Vector3f, Vector4f, Vector6f};
 

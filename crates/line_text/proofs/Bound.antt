@@ -4,8 +4,8 @@ use mathlib.Core.Path.{◌≡◌}
 use lib.ListN.{length, take, length-append}
 use native.Mathlib.Omega.{arith}
 use Rattle.std.proofs.lemmas.List.{take_all}
-use Rattle.text_pieces.proofs.Digits.{at_most_ten}
-use Rattle.wheels_text.proofs.Bound.{thirty_six}
+use Rattle.line_text.proofs.Digits.{at_most_ten}
+use Rattle.line_text.proofs.WheelsBound.{thirty_six}
 use Rattle.line_text.specs.declared.Ending.{Ending}
 use Rattle.line_text.specs.declared.Ending.TheVariants.{Wheels, Failed}
 use Rattle.line_text.specs.declared.TickLine.{TickLine}

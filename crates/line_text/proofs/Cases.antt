@@ -5,8 +5,8 @@ use mathlib.Core.List.{[], ◌∷◌}
 use lib.Ieee.{binary32, of_bits, to_bits}
 use Rattle.line_text.specs.declared.Ending.TheVariants.{Wheels, Failed}
 use Rattle.line_text.specs.declared.Line.TheVariants.{Tick, Refused}
-use Rattle.text_pieces.specs.Pieces.{decimal_in, decimal}
-use Rattle.wheels_text.specs.Wheels.{hex, wheels_text}
+use Rattle.line_text.specs.Pieces.{decimal_in, decimal}
+use Rattle.line_text.specs.Wheels.{hex, wheels_text}
 use Rattle.line_text.specs.Text.{failed_text, ending_text, tick_text, refused_text, line_text}
 
 -- `0 Q - N 00000000 00000000 00000000 00000000`

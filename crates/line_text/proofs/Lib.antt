@@ -1,3 +1,10 @@
--- Laws that belong to no one function. Assumes nothing.
+-- Laws that belong to no one function, and cases that are computed. Assumes nothing.
 pub mod Bound
 pub mod Cases
+pub mod Growing
+pub mod Digits
+pub mod Library
+pub mod WheelsBound
+pub mod WheelsCases
+pub mod TotalsBound
+pub mod TotalsCases

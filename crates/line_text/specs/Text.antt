@@ -1,8 +1,8 @@
 -- The lines of program `drive` but the last, document 01, 'Cases', as bytes in ASCII. Assumes nothing.
 use Rattle.std.specs.Prelude.{ℕ, List, [], ◌∷◌, ◌++◌}
-use Rattle.text_pieces.specs.Pieces.{decimal, field, newline}
-use Rattle.wheels_text.specs.Wheels.{wheels_text}
-use Rattle.marks_text.specs.Marks.{marks_text}
+use Rattle.line_text.specs.Pieces.{decimal, field, newline}
+use Rattle.line_text.specs.Wheels.{wheels_text}
+use Rattle.line_text.specs.Marks.{marks_text}
 use Rattle.line_text.specs.declared.Ending.{Ending}
 use Rattle.line_text.specs.declared.Ending.TheVariants.{Wheels, Failed}
 use Rattle.line_text.specs.declared.TickLine.{TickLine}

@@ -1,15 +1,20 @@
-// The text of program `drive` but its last line: one line for each tick or refused block. A line goes
-// into a lent array that can't be too short; what stands behind it there stays.
+// The text of program `drive`: a line for each tick or refused block, and the last line in `totals`. A
+// line goes into a lent array that can't be too short; what stands behind it there stays.
 #![tactic(auto)]
 
+pub mod marks; // marks.rt: a tick's letter and marks
+pub mod pieces; // pieces.rt: a text as it grows, by bytes, texts and numbers
+pub mod totals; // totals.rt: the last line
+pub mod wheels; // wheels.rt: the wheel speeds
+
 ghost use Rattle.std.specs.Prelude.{◌≤◌, ◌≡◌, ◌++◌, length, take, drop};
-ghost use Rattle.text_pieces.specs.Puts.{Within};
+ghost use Rattle.line_text.specs.Puts.{Within};
 ghost use Rattle.line_text.specs.Text.{ending_text, line_text, refused_text, tick_text};
 
-use marks_text::marks;
+use crate::marks::marks;
+use crate::pieces::Text;
+use crate::wheels::push_wheels;
 use na::Vector4f;
-use text_pieces::Text;
-use wheels_text::push_wheels;
 
 // How many bytes hold any line.
 pub const LINE: usize = 128;
@@ -75,7 +80,7 @@ fn push_line<const N: usize>(text: &mut Text<N>, line: Line)
 }
 
 // A tick's line.
-#[tactic(auto, using(text_pieces::proofs::Growing::growing), unfolding(crate::specs::Text::tick_text))]
+#[tactic(auto, using(crate::proofs::Growing::growing), unfolding(crate::specs::Text::tick_text))]
 fn push_tick<const N: usize>(text: &mut Text<N>, t: TickLine)
     ensures { text.new ≡ take N (text.old ++ tick_text t) }
 {
@@ -86,7 +91,7 @@ fn push_tick<const N: usize>(text: &mut Text<N>, t: TickLine)
 }
 
 // A refused block's line.
-#[tactic(auto, using(text_pieces::proofs::Growing::growing), unfolding(crate::specs::Text::refused_text))]
+#[tactic(auto, using(crate::proofs::Growing::growing), unfolding(crate::specs::Text::refused_text))]
 fn push_refused<const N: usize>(text: &mut Text<N>, f: RefusedLine)
     ensures { text.new ≡ take N (text.old ++ refused_text f) }
 {

@@ -9,7 +9,7 @@ use Rattle.cmd.specs.declared.ManeuverCommand.{ManeuverCommand}
 use Rattle.memory.specs.declared.Sample.{Sample}
 use Rattle.std.specs.Prelude.{Some}
 use Rattle.memory.specs.declared.Memory.{Memory}
-use Rattle.plan_answer.specs.declared.PlanAnswer.TheVariants.{Hold, NoVision, Keep, NewPlan}
+use Rattle.maneuvers.specs.declared.answer.PlanAnswer.TheVariants.{Hold, NoVision, Keep, NewPlan}
 use Rattle.memory.specs.Memory.{empty_memory}
 use Rattle.maneuvers.specs.Plan.{holds, hold, in_mode, plans_anew, seed_of, maneuver_answer, decided}
 

@@ -1,2 +1,3 @@
--- Laws of plan's decision. Assumes nothing.
+-- Laws that belong to no one function. Assumes nothing.
 pub mod Laws
+pub mod EqualityLaws

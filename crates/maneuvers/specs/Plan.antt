@@ -4,12 +4,12 @@ use Rattle.na.specs.declared.Vector6f.{Vector6f}
 use Rattle.cmd.specs.declared.ManeuverCommand.{ManeuverCommand}
 use Rattle.memory.specs.declared.Sample.{Sample}
 use Rattle.memory.specs.declared.Memory.{Memory}
-use Rattle.plan_answer.specs.declared.PlanAnswer.{PlanAnswer}
-use Rattle.plan_answer.specs.declared.PlanAnswer.TheVariants.{Hold, NoVision, Keep, NewPlan}
+use Rattle.maneuvers.specs.declared.answer.PlanAnswer.{PlanAnswer}
+use Rattle.maneuvers.specs.declared.answer.PlanAnswer.TheVariants.{Hold, NoVision, Keep, NewPlan}
 use Rattle.maneuvers.specs.declared.Decision.{Decision}
 use Rattle.cmd.specs.Command.{is_mode}
 use Rattle.memory.specs.Memory.{empty_memory}
-use Rattle.command_equality.specs.Equality.{command_changed}
+use Rattle.maneuvers.specs.Equality.{command_changed}
 
 -- hold if halt, recovering, or mode 0 or 1. A number that is no mode holds too, so that there is an answer: callers refuse it first, with 4
 abbrev pub holds : ℕ → Bool → Bool → Bool

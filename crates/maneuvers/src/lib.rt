@@ -1,15 +1,18 @@
 // The tick's one decision over mode, halt, recovery and vision.
 #![tactic(auto)]
 
+pub mod answer; // answer.rt: plan's four answers
+pub mod equality; // equality.rt: when two commands are equal, and whether the command changed
+
 ghost use Rattle.std.specs.Prelude.{◌≡◌};
 ghost use Rattle.maneuvers.specs.Plan.{in_mode, maneuver_answer, decided, number_decided};
-ghost use Rattle.plan_answer.specs.Answer.{answer_number};
+ghost use Rattle.maneuvers.specs.Answer.{answer_number};
 
+use crate::answer::PlanAnswer;
+use crate::equality::command_changed;
 use cmd::ManeuverCommand;
-use command_equality::command_changed;
 use memory::Memory;
 use na::Vector6f;
-use plan_answer::PlanAnswer;
 
 // An answer, beside the memory and the previous mode that plan leaves.
 // Both by value, no `&mut` and no pair: document 01 has an answer struct beside the new state.

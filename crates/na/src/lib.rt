@@ -1,5 +1,5 @@
 // nalgebra's vectors, their zeros, and arrays of their entries. Nearly every crate reads this one;
-// `vectors` has the operations.
+// `linear::vectors` has the operations.
 #![tactic(auto)]
 
 ghost use Rattle.std.specs.Prelude.{◌≡◌};

@@ -3,8 +3,8 @@ use mathlib.Core.Path.{◌≡◌, refl}
 use mathlib.Core.Bool.{Bool, true, false, cond, ◌&&◌}
 use lib.Dec.{T}
 use lib.Ieee.{Float, nan, binary32, mul, div, lt, le}
-use Rattle.float_bits.specs.Magnitude.{magnitude}
-use Rattle.float_clamp.proofs.Laws.{clamp_nan, clamp_between_lem}
+use Rattle.ieee754.specs.Magnitude.{magnitude}
+use Rattle.ieee754.proofs.ClampLaws.{clamp_nan, clamp_between_lem}
 use Rattle.na.specs.Vector.{zero_float}
 use Rattle.pid.specs.declared.PidController.{PidController}
 use Rattle.std.specs.Prelude.{Option, None, Some}

@@ -1,3 +1,6 @@
--- The laws of the PID controller. Assumes nothing.
+-- Laws that belong to no one function. Assumes nothing.
 pub mod AxisLaws
 pub mod AxesLaws
+mod Mapped
+mod Entries
+pub mod PidAxesLaws

@@ -3,8 +3,8 @@
 use Rattle.std.specs.Prelude.{cond, ◌&&◌, Float, Option, None, Some}
 use Rattle.std.specs.Float.{binary32}
 use Rattle.std.specs.Float.Ieee.{add, sub, mul, div, lt}
-use Rattle.float_bits.specs.Magnitude.{magnitude}
-use Rattle.float_clamp.specs.Clamp.{clamp_between}
+use Rattle.ieee754.specs.Magnitude.{magnitude}
+use Rattle.ieee754.specs.Clamp.{clamp_between}
 use Rattle.na.specs.Vector.{zero_float}
 use Rattle.params.specs.declared.PidGains.{PidGains}
 use Rattle.pid.specs.declared.PidController.{PidController}

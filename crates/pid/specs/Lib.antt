@@ -1,3 +1,4 @@
--- What the contracts of `pid` cite: pid.rs, axis by axis. Assumes nothing.
+-- What the contracts of `pid` cite: pid.rs, axis by axis. Definitions only. Assumes nothing.
 pub mod Axis
 pub mod Axes
+pub mod PidAxes

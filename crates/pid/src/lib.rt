@@ -1,11 +1,13 @@
-// pid.rs: a PID controller by value, for one axis.
+// pid.rs: a PID controller by value, for one axis; `axes` has it for any number.
 #![tactic(auto)]
+
+pub mod axes; // axes.rt: a controller for each entry of a vector
 
 ghost use Rattle.std.specs.Prelude.{◌≡◌};
 ghost use Rattle.pid.specs.Axis.{anti_jitter, limited, calculated, calculated_with_derivative, reset_of, new_controller};
 
-use float_bits::abs;
-use float_clamp::clamp;
+use ieee754::bits::abs;
+use ieee754::clamp::clamp;
 use params::PidGains;
 
 #[derive(Clone, Copy)]

@@ -4,12 +4,12 @@ use mathlib.Core.Path.{refl}
 use mathlib.Core.Bool.{Bool, true, false, cond}
 use mathlib.Core.List.{List, [], ◌∷◌, reverse_aux}
 use Rattle.line_text.specs.declared.Line.{Line}
-use Rattle.drive_pass.specs.declared.Pass.{Pass}
-use Rattle.drive_pass.specs.declared.Pass.TheVariants.{Empty}
+use Rattle.drive_blocks.specs.declared.pass.Pass.{Pass}
+use Rattle.drive_blocks.specs.declared.pass.Pass.TheVariants.{Empty}
 use Rattle.drive_blocks.specs.Blocks.{driven}
 use Rattle.plain_pass.specs.PlainPass.{Passed}
 use Rattle.plain_pass.proofs.EveryPass.{every_pass}
-use Rattle.driven_text.specs.Written.{is_refused}
+use Rattle.drive_text.specs.Driven.{is_refused}
 use Rattle.drive_text.specs.Batch.{first_block, behind_first, Batched, one_block, then, batch_of}
 use Rattle.plain_batches.specs.BatchHolds.{BatchHolds}
 

@@ -1,6 +1,6 @@
 -- The pass theorem, of batches. Proved in proofs/BatchHolds.antt. Assumes nothing.
 use Rattle.std.specs.Prelude.{ℕ, List, reverse}
-use Rattle.drive_pass.specs.declared.Pass.TheVariants.{Empty}
+use Rattle.drive_blocks.specs.declared.pass.Pass.TheVariants.{Empty}
 use Rattle.plain_pass.specs.PlainPass.{PassHolds}
 use Rattle.drive_text.specs.Batch.{batch_of}
 

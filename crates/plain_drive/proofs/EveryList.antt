@@ -14,10 +14,10 @@ use Rattle.std.specs.Prelude.{Result, Ok, Err}
 use Rattle.std.specs.Result.{result_map_both}
 use Rattle.tick_length.specs.declared.TickLength.{TickLength}
 use Rattle.tick_length.specs.TickLength.{is_tick_length, tick_length_of, seconds_of}
-use Rattle.gate.specs.declared.VisionGateState.{VisionGateState}
-use Rattle.gate.specs.declared.VisionGateState.TheVariants.{Seeding, Tracking}
-use Rattle.gate_action.specs.Outcome.{takes}
-use Rattle.gate.specs.Gate.{distance}
+use Rattle.vision.specs.declared.gate.VisionGateState.{VisionGateState}
+use Rattle.vision.specs.declared.gate.VisionGateState.TheVariants.{Seeding, Tracking}
+use Rattle.tick.specs.Outcome.{takes}
+use Rattle.vision.specs.Gate.{distance}
 use Rattle.vision.specs.Vision.{active, new_vision}
 use Rattle.memory.specs.Memory.{empty_memory}
 use Rattle.vision.proofs.Outcomes.{Small}
@@ -33,7 +33,7 @@ use Rattle.refusal.specs.Refusal.{number_of}
 use Rattle.body_controller.specs.Turn.{is_sight}
 use Rattle.tick.specs.Counts.{no_counts, count_list}
 use Rattle.context.specs.Context as Context
-use Rattle.context_sight.specs.Sight as ContextSight
+use Rattle.context.specs.Sight as ContextSight
 use Rattle.body_controller.specs.Controller.{started, new_of, reset_of}
 use Rattle.body_controller.specs.Controller as Controller
 use Rattle.call_answers.specs.Sight.{sight_answer}

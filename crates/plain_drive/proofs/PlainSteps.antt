@@ -10,19 +10,19 @@ use lib.Ieee.{Float}
 use Rattle.na.specs.declared.Vector4f.{Vector4f}
 use Rattle.na.specs.declared.Vector6f.{Vector6f}
 use Rattle.params.specs.Params.{vision_clock_start_s}
-use Rattle.gate.specs.declared.VisionGateState.TheVariants.{Seeding}
-use Rattle.seeding.specs.Seeding.{fresh_seeding}
+use Rattle.vision.specs.declared.gate.VisionGateState.TheVariants.{Seeding}
+use Rattle.vision.specs.Seeding.{fresh_seeding}
 use Rattle.cmd.specs.declared.ManeuverCommand.{ManeuverCommand}
 use Rattle.std.specs.Prelude.{Option, Result, Ok, Err}
 use Rattle.refusal.specs.declared.Refusal.{Refusal}
-use Rattle.plan_answer.specs.declared.PlanAnswer.{PlanAnswer}
+use Rattle.maneuvers.specs.declared.answer.PlanAnswer.{PlanAnswer}
 use Rattle.cmd.specs.Command.{command_from}
-use Rattle.divergence.specs.declared.TrackingDivergenceState.{TrackingDivergenceState}
-use Rattle.divergence.specs.declared.TrackingDivergenceState.TheVariants.{Normal, Recovering}
-use Rattle.recovery.specs.declared.RecoveryAnswer.{RecoveryAnswer}
-use Rattle.divergence.specs.Divergence.{is_recovering}
-use Rattle.tracking_limits.specs.Limits.{at_rest}
-use Rattle.recovery.specs.Recovery.{tracking_error_exceeded, recovery}
+use Rattle.tracking.specs.declared.divergence.TrackingDivergenceState.{TrackingDivergenceState}
+use Rattle.tracking.specs.declared.divergence.TrackingDivergenceState.TheVariants.{Normal, Recovering}
+use Rattle.tracking.specs.declared.recovery.RecoveryAnswer.{RecoveryAnswer}
+use Rattle.tracking.specs.Divergence.{is_recovering}
+use Rattle.tracking.specs.ErrorLimits.{at_rest}
+use Rattle.tracking.specs.Recovery.{tracking_error_exceeded, recovery}
 use Rattle.inputs.specs.declared.SightInput.{SightInput}
 use Rattle.inputs.specs.declared.PlanInput.{PlanInput}
 use Rattle.inputs.specs.declared.SteerInput.{SteerInput}

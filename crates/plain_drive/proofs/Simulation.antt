@@ -9,22 +9,22 @@ use lib.Dec.{eqb, ltb}
 use lib.Ieee.{Float}
 use Rattle.na.specs.declared.Vector4f.{Vector4f}
 use Rattle.tick_length.specs.TickLength.{seconds_of}
-use Rattle.gate_action.specs.declared.GateAction.{GateAction}
-use Rattle.gate_action.specs.declared.GateAction.TheVariants.{NoVision, Accumulate, SeedComplete, SeedReset, Accept, AcceptJump, FirstReject, Reject}
-use Rattle.gate_action.specs.Outcome.{overwrites, number_of}
-use Rattle.gate.specs.Gate.{sighting_of}
+use Rattle.tick.specs.declared.action.GateAction.{GateAction}
+use Rattle.tick.specs.declared.action.GateAction.TheVariants.{NoVision, Accumulate, SeedComplete, SeedReset, Accept, AcceptJump, FirstReject, Reject}
+use Rattle.tick.specs.Outcome.{overwrites, number_of}
+use Rattle.vision.specs.Gate.{sighting_of}
 use Rattle.vision.specs.Vision.{new_vision, vision_after}
 use Rattle.std.specs.Prelude.{None, Result, Ok, Err}
 use Rattle.refusal.specs.declared.Refusal.{Refusal}
 use Rattle.refusal.specs.declared.Refusal.TheVariants as Why
 use Rattle.cmd.specs.declared.ManeuverCommand.{ManeuverCommand}
 use Rattle.memory.specs.declared.Memory.{Memory}
-use Rattle.plan_answer.specs.declared.PlanAnswer.{PlanAnswer}
-use Rattle.plan_answer.specs.declared.PlanAnswer.TheVariants as Answers
+use Rattle.maneuvers.specs.declared.answer.PlanAnswer.{PlanAnswer}
+use Rattle.maneuvers.specs.declared.answer.PlanAnswer.TheVariants as Answers
 use Rattle.cmd.specs.declared.ManeuverCommand.TheVariants as Cmd
 use Rattle.cmd.specs.Command.{position_from, line_from, command_from}
 use Rattle.memory.specs.Memory.{empty_memory, trajectory_dropped, after_tracking}
-use Rattle.recovery.specs.Recovery.{recovery}
+use Rattle.tracking.specs.Recovery.{recovery}
 use Rattle.body_controller.specs.declared.BodyController.{BodyController}
 use Rattle.tick.specs.declared.Counts.{Counts}
 use Rattle.inputs.specs.declared.SightInput.{SightInput}
@@ -35,11 +35,11 @@ use Rattle.call_answers.specs.declared.Steered.{Steered}
 use Rattle.context.specs.declared.Planned.{Planned}
 use Rattle.tick.specs.Counts.{counted, count_list}
 use Rattle.context.specs.declared.ControlContext.{ControlContext}
-use Rattle.context_steer.specs.declared.Tracked.{Tracked}
+use Rattle.context.specs.declared.steer.Tracked.{Tracked}
 use Rattle.context.specs.Context as Context
-use Rattle.context_sight.specs.Sight as ContextSight
-use Rattle.context_plan.specs.Plan as ContextPlan
-use Rattle.context_steer.specs.Steer as Tracking
+use Rattle.context.specs.Sight as ContextSight
+use Rattle.context.specs.Plan as ContextPlan
+use Rattle.context.specs.Steer as Tracking
 use Rattle.body_controller.specs.declared.Turn.{Turn}
 use Rattle.body_controller.specs.declared.Turn.TheVariants as Turns
 use Rattle.body_controller.specs.Turn.{is_sight, is_plan, planned_at, steered_at}

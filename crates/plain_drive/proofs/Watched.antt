@@ -10,11 +10,11 @@ use mathlib.Core.List.{List, [], ◌∷◌, head-eq_of_cons-eq, tail-eq_of_cons-
 use lib.Dec.{lit<, lit≤}
 use lib.ListN.{length}
 use Rattle.tick_length.specs.TickLength.{seconds_of}
-use Rattle.gate_action.specs.declared.GateAction.{GateAction}
-use Rattle.gate_action.specs.declared.GateAction.TheVariants.{NoVision, Accumulate, SeedComplete, SeedReset, Accept, AcceptJump, FirstReject, Reject}
+use Rattle.tick.specs.declared.action.GateAction.{GateAction}
+use Rattle.tick.specs.declared.action.GateAction.TheVariants.{NoVision, Accumulate, SeedComplete, SeedReset, Accept, AcceptJump, FirstReject, Reject}
 use Rattle.vision.specs.declared.Vision.{Vision}
-use Rattle.gate_action.specs.Outcome.{takes, number_of}
-use Rattle.gate.specs.Gate.{sighting_of, judged}
+use Rattle.tick.specs.Outcome.{takes, number_of}
+use Rattle.vision.specs.Gate.{sighting_of, judged}
 use Rattle.vision.specs.Vision.{vision_after}
 use Rattle.vision.proofs.Outcomes.{Small, fresh_small, stays_small, Seeds, refused_seeds}
 use Rattle.vision.proofs.Held.{Held, Unheld, taken_held, held_waits, unheld_waits}

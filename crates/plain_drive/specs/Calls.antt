@@ -1,8 +1,8 @@
 -- The five calls and what is compared of their answers: document 01, 'The tick's four calls' and 'The plain drive'. Assumes nothing.
 use Rattle.std.specs.Prelude.{ℕ, Bool, true, false}
-use Rattle.gate_action.specs.declared.GateAction.{GateAction}
-use Rattle.gate_action.specs.Outcome.{takes}
-use Rattle.plan_answer.specs.declared.PlanAnswer.{PlanAnswer}
+use Rattle.tick.specs.declared.action.GateAction.{GateAction}
+use Rattle.tick.specs.Outcome.{takes}
+use Rattle.maneuvers.specs.declared.answer.PlanAnswer.{PlanAnswer}
 use Rattle.inputs.specs.declared.SightInput.{SightInput}
 use Rattle.inputs.specs.declared.PlanInput.{PlanInput}
 use Rattle.inputs.specs.declared.SteerInput.{SteerInput}

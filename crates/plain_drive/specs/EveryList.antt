@@ -3,14 +3,14 @@
 use Rattle.std.specs.Prelude.{ℕ, ◌+◌, ◌-◌, ◌*◌, ◌/◌, ◌≤◌, ◌≡◌, Bool, true, false, cond, not, ◌&&◌, ◌||◌, List, [], ◌∷◌, T, leb, pos, Float, Result, Ok, Err}
 use Rattle.std.specs.Float.{binary32}
 use Rattle.std.specs.Float.Ieee.{le, of_int}
-use Rattle.gate.specs.declared.VisionGateState.{VisionGateState}
-use Rattle.gate.specs.declared.VisionGateState.TheVariants.{Seeding, Tracking}
-use Rattle.gate.specs.Gate.{distance}
+use Rattle.vision.specs.declared.gate.VisionGateState.{VisionGateState}
+use Rattle.vision.specs.declared.gate.VisionGateState.TheVariants.{Seeding, Tracking}
+use Rattle.vision.specs.Gate.{distance}
 use Rattle.vision.specs.Vision.{active}
 use Rattle.refusal.specs.declared.Refusal.{Refusal}
 use Rattle.refusal.specs.Refusal.{refusal_number}
 use Rattle.na.specs.declared.Vector3f.{Vector3f}
-use Rattle.plan_answer.specs.declared.PlanAnswer.{PlanAnswer}
+use Rattle.maneuvers.specs.declared.answer.PlanAnswer.{PlanAnswer}
 use Rattle.call_answers.specs.declared.Sighted.{Sighted}
 use Rattle.call_answers.specs.declared.Finished.{Finished}
 use Rattle.body_controller.specs.declared.BodyController.{BodyController}

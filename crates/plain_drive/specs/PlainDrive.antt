@@ -6,24 +6,24 @@ use Rattle.na.specs.declared.Vector6f.{Vector6f}
 use Rattle.na.specs.Vector.{zeros6}
 use Rattle.params.specs.Params.{vision_clock_start_s}
 use Rattle.tick_length.specs.TickLength.{seconds_of}
-use Rattle.gate.specs.declared.VisionGateState.{VisionGateState}
-use Rattle.gate.specs.declared.VisionGateState.TheVariants.{Seeding}
-use Rattle.gate_action.specs.Outcome.{takes, overwrites, number_of}
-use Rattle.seeding.specs.Seeding.{fresh_seeding}
-use Rattle.gate.specs.Gate.{sighting_of, judged}
+use Rattle.vision.specs.declared.gate.VisionGateState.{VisionGateState}
+use Rattle.vision.specs.declared.gate.VisionGateState.TheVariants.{Seeding}
+use Rattle.tick.specs.Outcome.{takes, overwrites, number_of}
+use Rattle.vision.specs.Seeding.{fresh_seeding}
+use Rattle.vision.specs.Gate.{sighting_of, judged}
 use Rattle.vision.specs.Vision.{active, clock_after}
 use Rattle.cmd.specs.declared.ManeuverCommand.{ManeuverCommand}
 use Rattle.refusal.specs.declared.Refusal.{Refusal}
 use Rattle.memory.specs.declared.Sample.{Sample}
-use Rattle.plan_answer.specs.declared.PlanAnswer.{PlanAnswer}
-use Rattle.plan_answer.specs.declared.PlanAnswer.TheVariants.{Hold, NoVision, Keep, NewPlan}
+use Rattle.maneuvers.specs.declared.answer.PlanAnswer.{PlanAnswer}
+use Rattle.maneuvers.specs.declared.answer.PlanAnswer.TheVariants.{Hold, NoVision, Keep, NewPlan}
 use Rattle.cmd.specs.Command.{command_from}
 use Rattle.maneuvers.specs.Plan.{decided}
-use Rattle.divergence.specs.declared.TrackingDivergenceState.{TrackingDivergenceState}
-use Rattle.divergence.specs.declared.TrackingDivergenceState.TheVariants.{Normal}
-use Rattle.recovery.specs.declared.RecoveryAnswer.{RecoveryAnswer}
-use Rattle.divergence.specs.Divergence.{is_recovering}
-use Rattle.recovery.specs.Recovery.{recovery}
+use Rattle.tracking.specs.declared.divergence.TrackingDivergenceState.{TrackingDivergenceState}
+use Rattle.tracking.specs.declared.divergence.TrackingDivergenceState.TheVariants.{Normal}
+use Rattle.tracking.specs.declared.recovery.RecoveryAnswer.{RecoveryAnswer}
+use Rattle.tracking.specs.Divergence.{is_recovering}
+use Rattle.tracking.specs.Recovery.{recovery}
 use Rattle.inputs.specs.declared.SightInput.{SightInput}
 use Rattle.inputs.specs.declared.PlanInput.{PlanInput}
 use Rattle.inputs.specs.declared.SteerInput.{SteerInput}

@@ -11,7 +11,7 @@ use Rattle.refusal.specs.declared.Refusal.{Refusal}
 use Rattle.refusal.specs.declared.Refusal.TheVariants as Why
 use Rattle.refusal.specs.Refusal.{refusal_number}
 use Rattle.na.specs.declared.Vector3f.{Vector3f}
-use Rattle.plan_answer.specs.declared.PlanAnswer.{PlanAnswer}
+use Rattle.maneuvers.specs.declared.answer.PlanAnswer.{PlanAnswer}
 use Rattle.call_answers.specs.declared.Sighted.{Sighted}
 use Rattle.call_answers.specs.declared.Finished.{Finished}
 use Rattle.body_controller.specs.declared.BodyController.{BodyController}
@@ -30,12 +30,12 @@ use Rattle.plain_drive.proofs.EveryList.{demand3}
 use Rattle.line_text.specs.declared.Line.{Line}
 use Rattle.tick_block.specs.declared.TickBlock.{TickBlock}
 use Rattle.tick_block.specs.Block as Blocks
-use Rattle.drive_pass.specs.declared.Driven.{Driven}
-use Rattle.drive_pass.specs.declared.Pass.{Pass}
-use Rattle.drive_pass.specs.declared.Pass.TheVariants.{Empty, Driving}
-use Rattle.drive_pass.specs.Pass.{next_number, counts_of, refused_by}
-use Rattle.tick_calls.specs.Tick as Tick
-use Rattle.tick_calls.specs.Tick.{ended_by, ending_of, then, steered, planned, ticked_with, ticked}
+use Rattle.drive_blocks.specs.declared.pass.Driven.{Driven}
+use Rattle.drive_blocks.specs.declared.pass.Pass.{Pass}
+use Rattle.drive_blocks.specs.declared.pass.Pass.TheVariants.{Empty, Driving}
+use Rattle.drive_blocks.specs.Pass.{next_number, counts_of, refused_by}
+use Rattle.drive_blocks.specs.Tick as Tick
+use Rattle.drive_blocks.specs.Tick.{ended_by, ending_of, then, steered, planned, ticked_with, ticked}
 use Rattle.drive_blocks.specs.Blocks.{ticked_on, driver_of, taken_with, taken, driven_with, driven}
 use Rattle.plain_pass.specs.PlainPass.{ending_number, mark_of, PlainPass, none, at, PlainDriven, reply_after, refusal_in, ended_at, at_finish, at_steer, at_plan, plain_tick, plain_ticks, plain_counts, refused_at, plain_take, plain_read, plain_pass, plain_marks, Passed, marks_of, StandsOn, EveryPass}
 

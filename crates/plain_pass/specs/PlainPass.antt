@@ -4,9 +4,9 @@ use Rattle.std.specs.Prelude.{ℕ, ◌≡◌, Bool, true, false, cond, List, [],
 use Rattle.refusal.specs.declared.Refusal.{Refusal}
 use Rattle.refusal.specs.Refusal.{refusal_number}
 use Rattle.tick_length.specs.TickLength.{is_tick_length, seconds_of}
-use Rattle.gate_action.specs.Outcome.{letter_of}
+use Rattle.tick.specs.Outcome.{letter_of}
 use Rattle.vision.specs.Vision.{active}
-use Rattle.divergence.specs.Divergence.{is_recovering}
+use Rattle.tracking.specs.Divergence.{is_recovering}
 use Rattle.inputs.specs.declared.TickInput.{TickInput}
 use Rattle.tick.specs.Counts.{count_list}
 use Rattle.plain_drive.specs.Calls.{Call, sight, plan, steer, finish, Reply, outcome, answer, accepted, refused}
@@ -18,10 +18,10 @@ use Rattle.line_text.specs.declared.Line.{Line}
 use Rattle.line_text.specs.declared.Line.TheVariants as Lines
 use Rattle.tick_block.specs.declared.TickBlock.{TickBlock}
 use Rattle.tick_block.specs.Block as Blocks
-use Rattle.drive_pass.specs.declared.Driven.{Driven}
-use Rattle.drive_pass.specs.declared.Pass.{Pass}
-use Rattle.drive_pass.specs.declared.Pass.TheVariants.{Empty, Driving}
-use Rattle.drive_pass.specs.Pass.{next_number, counts_of}
+use Rattle.drive_blocks.specs.declared.pass.Driven.{Driven}
+use Rattle.drive_blocks.specs.declared.pass.Pass.{Pass}
+use Rattle.drive_blocks.specs.declared.pass.Pass.TheVariants.{Empty, Driving}
+use Rattle.drive_blocks.specs.Pass.{next_number, counts_of}
 use Rattle.drive_blocks.specs.Blocks.{driven}
 
 -- ---- what is compared of a line

@@ -8,8 +8,8 @@ use Rattle.na.specs.Vector.{zeros3, entries3}
 use Rattle.params.specs.Params.{linear_pose_pid_gains, angular_pose_pid_gains, pose_pid_anti_jitter_thresh}
 use Rattle.pid.specs.Axis.{new_controller, reset_of}
 use Rattle.pid.specs.Axes.{answers}
-use Rattle.pid_axes.specs.Axes.{joined, calculated_with_derivative}
-use Rattle.pid_axes.specs.Axes as axes
+use Rattle.pid.specs.PidAxes.{joined, calculated_with_derivative}
+use Rattle.pid.specs.PidAxes as axes
 use Rattle.setpoints.specs.declared.PidMemory.{PidMemory}
 use Rattle.setpoints.specs.Setpoints.{empty_pid}
 use Rattle.tracking.specs.Setpoints.{pose_axis, axis_answered, pose_answered}

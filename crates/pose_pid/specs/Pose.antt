@@ -2,7 +2,7 @@
 use Rattle.std.specs.Prelude.{[], ◌∷◌, map}
 use Rattle.na.specs.Vector.{entry}
 use Rattle.params.specs.Params.{linear_pose_pid_gains, angular_pose_pid_gains, pose_pid_anti_jitter_thresh}
-use Rattle.pid_axes.specs.declared.PidAxes.{PidAxes}
+use Rattle.pid.specs.declared.axes.PidAxes.{PidAxes}
 use Rattle.setpoints.specs.declared.PidMemory.{PidMemory}
 use Rattle.tracking.specs.Setpoints.{pose_axis}
 

@@ -5,8 +5,8 @@ use Rattle.refusal.specs.declared.Refusal.{Refusal}
 use Rattle.active_brake.specs.declared.ActiveBrakeController.{ActiveBrakeController}
 use Rattle.active_brake.specs.declared.BrakeAnswer.{BrakeAnswer}
 use Rattle.active_brake.specs.Brake.{brake_of, computed, reset_brake}
-use Rattle.block_words.specs.Word.{word_at}
-use Rattle.block_floats.specs.Floats.{floats_at}
+use Rattle.blocks.specs.Word.{word_at}
+use Rattle.blocks.specs.Floats.{floats_at}
 use Rattle.rust_vectors.specs.Memory.{with_memories, axes_put}
 use Rattle.rust_vectors.specs.Kinds.{by_kind2}
 

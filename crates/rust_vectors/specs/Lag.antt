@@ -5,10 +5,10 @@ use Rattle.std.specs.Float.Ieee.{of_bits}
 use Rattle.na.specs.Vector.{zeros2, vector2_of}
 use Rattle.first_order_lag.specs.declared.FirstOrderLag.{FirstOrderLag}
 use Rattle.refusal.specs.declared.Refusal.{Refusal}
-use Rattle.encoder_lag.specs.EncoderLag.{lag_of}
+use Rattle.first_order_lag.specs.EncoderLag.{lag_of}
 use Rattle.first_order_lag.specs.FirstOrderLag.{stepped_of, inverted_of, reset_of}
-use Rattle.block_words.specs.Word.{word_at}
-use Rattle.block_floats.specs.Floats.{floats_at}
+use Rattle.blocks.specs.Word.{word_at}
+use Rattle.blocks.specs.Floats.{floats_at}
 use Rattle.rust_vectors.specs.declared.lag.LagAnswer.{LagAnswer}
 use Rattle.rust_vectors.specs.Memory.{word}
 use Rattle.rust_vectors.specs.Kinds.{by_kind3}

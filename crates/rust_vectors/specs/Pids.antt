@@ -5,11 +5,11 @@ use Rattle.na.specs.Vector.{zero_float}
 use Rattle.params.specs.declared.PidGains.{PidGains}
 use Rattle.pid.specs.declared.PidController.{PidController}
 use Rattle.pid.specs.Axis.{new_controller}
-use Rattle.pid_axes.specs.declared.PidAxes.{PidAxes}
-use Rattle.pid_axes.specs.declared.PidAxesAnswer.{PidAxesAnswer}
-use Rattle.pid_axes.specs.Axes.{calculated, calculated_with_derivative, reset_of}
-use Rattle.block_words.specs.Word.{word_at}
-use Rattle.block_floats.specs.Floats.{float_at, floats_at}
+use Rattle.pid.specs.declared.axes.PidAxes.{PidAxes}
+use Rattle.pid.specs.declared.axes.PidAxesAnswer.{PidAxesAnswer}
+use Rattle.pid.specs.PidAxes.{calculated, calculated_with_derivative, reset_of}
+use Rattle.blocks.specs.Word.{word_at}
+use Rattle.blocks.specs.Floats.{float_at, floats_at}
 use Rattle.rust_vectors.specs.Memory.{with_memories, axes_put}
 use Rattle.rust_vectors.specs.Kinds.{by_kind3}
 

@@ -5,8 +5,8 @@ ghost use Rattle.rust_vectors.specs.Brake.{answer, step};
 use crate::call::Call;
 use crate::remembered::{put_axes, with_memories};
 use active_brake::{ActiveBrakeController, BrakeAnswer};
-use block_floats::floats_at;
-use block_words::word_at;
+use blocks::floats::floats_at;
+use blocks::words::word_at;
 use na::{Vector4f, ZEROS_4};
 
 // A call has its kind and the wheel speeds, and then what is compared. The last kind is reset, whose

@@ -2,7 +2,7 @@
 ghost use Rattle.std.specs.Prelude.{◌≡◌};
 ghost use Rattle.rust_vectors.specs.Compare.{agrees_up_to};
 
-use block_words::word_at;
+use blocks::words::word_at;
 use std::io;
 
 // Whether the twelve words are those of the call from `at` on.

@@ -3,11 +3,11 @@ ghost use Rattle.std.specs.Prelude.{◌≡◌};
 ghost use Rattle.rust_vectors.specs.Lag.{is_wanted, answer, step_made, step};
 
 use crate::call::Call;
-use block_floats::floats_at;
-use block_words::word_at;
-use encoder_lag::new_from_horizon;
+use blocks::floats::floats_at;
+use blocks::words::word_at;
 use first_order_lag::FirstOrderLag;
-use float_bits::{from_bits, to_bits};
+use first_order_lag::encoder::new_from_horizon;
+use ieee754::bits::{from_bits, to_bits};
 use na::{Vector2f, ZEROS_2};
 
 // What a call leaves, the lag after it and the output: calls go by value, so each hands both back.

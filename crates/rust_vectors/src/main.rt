@@ -15,15 +15,15 @@ mod compare; // compare.rt: the words of an answer against those wanted
 ghost use Rattle.std.specs.Prelude.{◌≡◌};
 ghost use Rattle.rust_vectors.specs.Lists.{step_of};
 
-use block_words::word_at;
+use blocks::words::word_at;
 use call::Call;
 use compare::{agrees, show};
 use full_read::read_full;
 use input::read_record;
 use layout::{Layout, ListOf, layout_of};
 use std::io;
-use tally::Tally;
 use vector_run::report::write_line;
+use vector_run::tally::Tally;
 
 fn cut_short(tally: Tally) -> Tally {
     Tally {

@@ -4,11 +4,11 @@ ghost use Rattle.rust_vectors.specs.Pids.{gains_at, thresh_at, limits_at, axis_a
 
 use crate::call::Call;
 use crate::remembered::{put_axes, with_memories};
-use block_floats::{float_at, floats_at};
-use block_words::word_at;
+use blocks::floats::{float_at, floats_at};
+use blocks::words::word_at;
 use params::PidGains;
 use pid::PidController;
-use pid_axes::{PidAxes, PidAxesAnswer};
+use pid::axes::{PidAxes, PidAxesAnswer};
 use std::array;
 
 // A header has the number of calls; the gains, axis by axis; whether there is a threshold, and one

@@ -2,9 +2,9 @@
 ghost use Rattle.std.specs.Prelude.{◌≡◌, ◌+◌, ◌<◌, ◌≤◌};
 ghost use Rattle.rust_vectors.specs.Memory.{with_memory, with_memories, axis_put, axes_put};
 
-use float_bits::{from_bits, to_bits};
+use ieee754::bits::{from_bits, to_bits};
 use pid::PidController;
-use pid_axes::PidAxes;
+use pid::axes::PidAxes;
 
 // A controller that remembers the errors with these bits, the previous one and the integrated one.
 #[tactic(auto, unfolding(crate::specs::Memory::with_memory))]

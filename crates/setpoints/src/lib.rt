@@ -1,5 +1,4 @@
-// Setpoints, and what the pose's PID remembers. Types and constants alone, so that a context needs
-// no PID.
+// Setpoints, and what the pose's PID remembers. Types and constants alone.
 #![tactic(auto)]
 
 use na::{Vector3f, ZEROS_3};

@@ -1,8 +1,8 @@
 -- The eight counts of a controller. They are 32-bit numbers here; that none ever wraps is part of what is shown of every list of calls.
 -- Assumes nothing.
 use Rattle.std.specs.Prelude.{ℕ, ◌+◌, ◌%◌, ◌^◌, cond, List, [], ◌∷◌, ◌==◌}
-use Rattle.gate_action.specs.declared.GateAction.{GateAction}
-use Rattle.gate_action.specs.Outcome.{number_of}
+use Rattle.tick.specs.declared.action.GateAction.{GateAction}
+use Rattle.tick.specs.Outcome.{number_of}
 use Rattle.tick.specs.declared.Counts.{Counts}
 
 unfoldable pub no_counts : Counts

@@ -1,3 +1,4 @@
--- What the contracts of `tick` cite. Definitions only. Assumes nothing.
+-- What the contracts of `tick` cite: document 01, 'Gate'. Definitions only. Assumes nothing.
 pub mod Counts
 pub mod Outputs
+pub mod Outcome

@@ -3,7 +3,7 @@ ghost use Rattle.std.specs.Prelude.{◌≡◌};
 ghost use Rattle.tick.specs.Counts.{counted};
 
 use crate::Counts;
-use gate_action::GateAction;
+use crate::action::GateAction;
 
 impl Counts {
     // One outcome more. The tick limit keeps every count far from wrapping.

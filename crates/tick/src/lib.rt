@@ -1,6 +1,7 @@
-// Small parts of a tick: the eight counts and the outputs.
+// Small parts of a tick: the eight outcomes, their counts, and the outputs.
 #![tactic(auto)]
 
+pub mod action; // action.rt: the eight outcomes, and what document 01 says of each
 pub mod count; // count.rt: how often each outcome came
 
 use na::{Vector3f, Vector4f, ZEROS_3, ZEROS_4};

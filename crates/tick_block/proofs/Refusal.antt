@@ -11,10 +11,10 @@ use Rattle.refusal.specs.Refusal.{refusal_number, number_of}
 use Rattle.tick_length.specs.declared.TickLength.{TickLength}
 use Rattle.tick_length.specs.TickLength.{is_tick_length, tick_length_of}
 use Rattle.cmd.specs.Command.{is_mode}
-use Rattle.block_words.specs.Word.{word_at}
-use Rattle.block_check.specs.Layout as at
-use Rattle.block_check.specs.Check.{spare_zero}
-use Rattle.block_tests.specs.Tests.{is_whole, checks, is_version, tested_with, inputs_tested, format_tested, block_tested}
+use Rattle.blocks.specs.Word.{word_at}
+use Rattle.blocks.specs.Layout as at
+use Rattle.blocks.specs.Check.{spare_zero}
+use Rattle.blocks.specs.Tests.{is_whole, checks, is_version, tested_with, inputs_tested, format_tested, block_tested}
 use Rattle.tick_block.specs.Block.{tick_block, block_read, block_refusal}
 
 -- the number of what the tests show is the answer's

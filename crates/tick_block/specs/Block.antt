@@ -4,13 +4,13 @@ use Rattle.std.specs.Result.{result_map_both}
 use Rattle.tick_length.specs.declared.TickLength.{TickLength}
 use Rattle.tick_length.specs.TickLength.{is_tick_length}
 use Rattle.cmd.specs.Command.{is_mode}
-use Rattle.block_words.specs.Word.{word_at}
-use Rattle.block_check.specs.Layout as at
-use Rattle.block_check.specs.Check.{spare_zero}
+use Rattle.blocks.specs.Word.{word_at}
+use Rattle.blocks.specs.Layout as at
+use Rattle.blocks.specs.Check.{spare_zero}
 use Rattle.refusal.specs.declared.Refusal.{Refusal}
-use Rattle.block_tests.specs.Tests.{is_whole, checks, is_version, block_tested}
-use Rattle.sight_inputs.specs.Inputs.{sight_input, plan_input}
-use Rattle.steer_inputs.specs.Inputs.{steer_input, finish_input}
+use Rattle.blocks.specs.Tests.{is_whole, checks, is_version, block_tested}
+use Rattle.tick_block.specs.SightInputs.{sight_input, plan_input}
+use Rattle.tick_block.specs.SteerInputs.{steer_input, finish_input}
 use Rattle.tick_block.specs.declared.TickBlock.{TickBlock}
 
 -- ---- the answer

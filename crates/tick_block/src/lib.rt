@@ -1,17 +1,21 @@
 // A lent block of any length is read as a tick block, a term of document 01, or refused.
 #![tactic(auto)]
 
+mod layout; // layout.rt: where the words of the inputs lie
+pub mod sight; // sight.rt: the inputs of sight and plan
+pub mod steer; // steer.rt: the inputs of steer and finish
+
 ghost use Rattle.std.specs.Prelude.{◌≡◌};
 ghost use Rattle.refusal.specs.Refusal.{number_of};
 ghost use Rattle.tick_block.specs.Block.{tick_block, block_read, block_refusal};
 
-use block_check::NUMBER;
-use block_tests::block_tested;
-use block_words::word_at;
+use crate::sight::{plan_input, sight_input};
+use crate::steer::{finish_input, steer_input};
+use blocks::check::NUMBER;
+use blocks::tests::block_tested;
+use blocks::words::word_at;
 use inputs::TickInput;
 use refusal::Refusal;
-use sight_inputs::{plan_input, sight_input};
-use steer_inputs::{finish_input, steer_input};
 use tick_length::TickLength;
 
 #[derive(Clone, Copy)]

@@ -1,9 +1,9 @@
 // The words of the four answers, which are zeros before.
 use crate::put::{put, put_two};
 use call_answers::{Finished, Measurement, Sighted};
-use float_bits::to_bits;
+use ieee754::bits::to_bits;
+use maneuvers::answer::PlanAnswer;
 use na::Vector3f;
-use plan_answer::PlanAnswer;
 use tick::Outputs;
 
 fn put_measurement(words: &mut [u32; 96], m: Measurement) {

@@ -1,10 +1,10 @@
 // A block's words, and the pass after it.
 use crate::calls::sight;
 use crate::state::put_state;
-use block_check::NUMBER;
-use block_order::order_tested;
-use block_tests::block_tested;
-use block_words::word_at;
+use blocks::check::NUMBER;
+use blocks::order::order_tested;
+use blocks::tests::block_tested;
+use blocks::words::word_at;
 use body_controller::BodyController;
 use refusal::Refusal;
 

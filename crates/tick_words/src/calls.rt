@@ -3,8 +3,8 @@
 use crate::answers::{put_finish, put_plan, put_sight, put_steer};
 use body_controller::{BodyController, Called};
 use refusal::Refusal;
-use sight_inputs::{plan_input, sight_input};
-use steer_inputs::{finish_input, steer_input};
+use tick_block::sight::{plan_input, sight_input};
+use tick_block::steer::{finish_input, steer_input};
 
 // A struct of c, block and words would be taken apart and made again in each call: no plainer.
 // A block that sight turns away is refused.

@@ -1,7 +1,7 @@
 // Floats among the 96 words, by their bits.
 ghost use Rattle.std.specs.Prelude.{◌+◌, ◌≤◌};
 
-use float_bits::to_bits;
+use ieee754::bits::to_bits;
 use na::Vector3f;
 
 pub(crate) fn put<const N: usize>(words: &mut [u32; 96], at: usize, floats: [f32; N])

@@ -4,10 +4,10 @@ use crate::put::{put, put_two};
 use body_controller::BodyController;
 use cmd::{GlobalPosition, HeadingLine, ManeuverCommand};
 use context::ControlContext;
-use float_bits::to_bits;
-use gate::VisionGateState;
+use ieee754::bits::to_bits;
 use memory::Memory;
 use vision::Vision;
+use vision::gate::VisionGateState;
 
 fn put_vision(words: &mut [u32; 96], vision: Vision) {
     words[55] = to_bits(vision.time_since_vision_update_s);

@@ -3,7 +3,7 @@
 use Rattle.std.specs.Prelude.{None, Some, Float}
 use Rattle.std.specs.Float.{binary32}
 use Rattle.std.specs.Float.Ieee.{add, sub}
-use Rattle.float_remainder.specs.Remainder.{remainder_by, tau}
+use Rattle.ieee754.specs.Remainder.{remainder_by, tau}
 use Rattle.na.specs.declared.Vector3f.{Vector3f}
 use Rattle.na.specs.declared.Vector6f.{Vector6f}
 use Rattle.na.specs.Vector.{zeros3, sum_of, difference_of, scaled}

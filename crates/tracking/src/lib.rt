@@ -1,11 +1,20 @@
-// Document 01, 'Steer': control_context.rs from the trajectory's sample to the setpoints.
+// Document 01, 'Steer': control_context.rs from the trajectory's sample to the setpoints. Recovery, the
+// stop state, the clamps and the friction twist stand in the modules.
 #![tactic(auto)]
+
+pub mod divergence; // divergence.rt: normal or recovering
+pub mod error_limits; // error_limits.rt: when an error exceeds its limit, and when the wheels are at rest
+pub mod friction; // friction.rt: the friction twist, local and gated
+pub mod limits; // limits.rt: the clamps of twist and acceleration
+pub mod recovery; // recovery.rt: the tracking error, and what recovery makes of it
+pub mod stop; // stop.rt: the stop state's speed
 
 ghost use Rattle.std.specs.Prelude.{◌≡◌};
 ghost use Rattle.na.specs.Vector.{zero_float};
 ghost use Rattle.tracking.specs.Setpoints.{pose_axis, axis_answered, pose_answered, wrapped, twist_setpoint, accel_setpoint, tracking_setpoints};
 
-use float_remainder::remainder;
+use ieee754::remainder::remainder;
+use linear::vectors::{add, scale, sub};
 use na::{Vector3f, Vector6f, ZEROS_3};
 use params::{
     ANGULAR_POSE_PID_GAINS, LINEAR_POSE_PID_GAINS, POSE_ACCEL_FEEDBACK_GAIN,
@@ -13,7 +22,6 @@ use params::{
 };
 use pid::PidController;
 use setpoints::{ManeuverSetpoints, PidMemory};
-use vectors::{add, scale, sub};
 
 // What tracking answers, beside the PID's memory as the call leaves it.
 // Both by value, no `&mut` and no pair: document 01 has an answer struct beside the new state.

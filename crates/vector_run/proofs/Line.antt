@@ -2,7 +2,7 @@
 use Rattle.std.proofs.Common.{◌≡◌, refl, sym, subst, ◌∙◌, ℕ, ◌^◌, ◌≤◌, ◌<◌, Bool, true, false, List, ◌++◌, length, take, decimal, arith, length-append, take_at}
 use Rattle.std.proofs.lemmas.Fmt.{length-decimal-le}
 use Rattle.std.proofs.lemmas.List.{take_all}
-use Rattle.tally.specs.declared.Tally.{Tally}
+use Rattle.vector_run.specs.declared.tally.Tally.{Tally}
 use Rattle.vector_run.specs.Line.{IsLine, ending, line_text}
 use Rattle.vector_run.proofs.Digits.{is_decimal}
 

@@ -1,2 +1,3 @@
--- What the contracts of `vector_run` cite. Assumes nothing.
+-- What the contracts of `vector_run` cite. Definitions only. Assumes nothing.
 pub mod Line
+pub mod Tally

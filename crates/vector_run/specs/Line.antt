@@ -3,7 +3,7 @@
 use Rattle.std.specs.Prelude.{ℕ, ◌≡◌, Bool, cond, List, [], ◌∷◌, ◌++◌, decimal, Option}
 use Rattle.std.specs.Io.KnownBytes.{Appends}
 use Rattle.io.specs.Digits.{last_digits, IsDigitCount}
-use Rattle.tally.specs.declared.Tally.{Tally}
+use Rattle.vector_run.specs.declared.tally.Tally.{Tally}
 
 -- ` `
 abbrev pub space : List ℕ

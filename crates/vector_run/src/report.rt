@@ -3,11 +3,11 @@ ghost use Rattle.std.specs.Prelude.{◌≡◌, ◌++◌, take, OnOk};
 ghost use Rattle.io.specs.Counts.{IsPrefixLen};
 ghost use Rattle.vector_run.specs.Line.{AppendsLine, IsLine, line_text};
 
+use crate::tally::Tally;
 use itoa::Buffer;
+use line_text::pieces::Text;
 use std::io;
 use std::io::Write;
-use tally::Tally;
-use text_pieces::Text;
 
 // Writes a list's name and its line.
 pub fn write_line<W: Write>(writer: &mut W, name: &str, tally: Tally) -> io::Result<()>
@@ -32,7 +32,7 @@ pub fn line(tally: Tally, out: &mut [u8; 80]) -> usize
     text.put(out)
 }
 
-#[tactic(auto, using(text_pieces::proofs::Growing::growing), unfolding(crate::specs::Line::line_text))]
+#[tactic(auto, using(line_text::proofs::Growing::growing), unfolding(crate::specs::Line::line_text))]
 fn push_line<const N: usize>(text: &mut Text<N>, tally: Tally)
     ensures { text.new ≡ take N (text.old ++ line_text tally) }
 {

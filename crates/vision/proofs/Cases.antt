@@ -5,18 +5,18 @@ use mathlib.Core.Bool.{true, false}
 use lib.Dec.{lit≤}
 use lib.Ieee.{Float, binary32, add, sub, mul, div, lt, le, eq, is_nan, of_int, to_bits, of_bits}
 use Rattle.std.specs.Prelude.{Option, None, Some, option_map}
-use Rattle.float_hypot.specs.Hypot.{hypotenuse, hypot_of, outweighs, larger, smaller, root_of_squares, scaled_root}
-use Rattle.float_bits.specs.Magnitude.{magnitude}
-use Rattle.float_root.specs.Root.{square_root, root_of, whole_root, root_digits, sticky}
+use Rattle.ieee754.specs.Hypot.{hypotenuse, hypot_of, outweighs, larger, smaller, root_of_squares, scaled_root}
+use Rattle.ieee754.specs.Magnitude.{magnitude}
+use Rattle.ieee754.specs.Root.{square_root, root_of, whole_root, root_digits, sticky}
 use Rattle.params.specs.Params.{vision_gate_base_radius_m}
 use Rattle.na.specs.Vector.{zero_float, zeros2, zeros3, zeros6}
 use Rattle.tick_length.specs.TickLength.{seconds_of}
-use Rattle.gate_action.specs.declared.GateAction.TheVariants.{Accumulate, SeedComplete, SeedReset, AcceptJump, FirstReject, Reject}
-use Rattle.gate.specs.declared.VisionGateState.{VisionGateState}
-use Rattle.gate.specs.declared.VisionGateState.TheVariants.{Seeding, Tracking}
-use Rattle.gate.specs.declared.Judgement.{Judgement}
-use Rattle.seeding.specs.Seeding.{fresh_seeding, gathered, deviation, steady}
-use Rattle.gate.specs.Gate.{seeding_judged, distance, radius, tracking_judged, sighting_judged, quiet, judged}
+use Rattle.tick.specs.declared.action.GateAction.TheVariants.{Accumulate, SeedComplete, SeedReset, AcceptJump, FirstReject, Reject}
+use Rattle.vision.specs.declared.gate.VisionGateState.{VisionGateState}
+use Rattle.vision.specs.declared.gate.VisionGateState.TheVariants.{Seeding, Tracking}
+use Rattle.vision.specs.declared.gate.Judgement.{Judgement}
+use Rattle.vision.specs.Seeding.{fresh_seeding, gathered, deviation, steady}
+use Rattle.vision.specs.Gate.{seeding_judged, distance, radius, tracking_judged, sighting_judged, quiet, judged}
 use Rattle.vision.specs.Vision.{active}
 use Rattle.vision.specs.Since.{clock_since}
 use Rattle.vision.proofs.Clock.{since_taken_lem}

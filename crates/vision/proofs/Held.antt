@@ -13,10 +13,10 @@ use Rattle.na.specs.declared.Vector3f.{Vector3f}
 use Rattle.na.specs.declared.Vector6f.{Vector6f}
 use Rattle.na.specs.Vector.{zero_float}
 use Rattle.tick_length.specs.TickLength.{seconds_of}
-use Rattle.gate.specs.declared.VisionGateState.TheVariants.{Tracking}
+use Rattle.vision.specs.declared.gate.VisionGateState.TheVariants.{Tracking}
 use Rattle.vision.specs.declared.Vision.{Vision}
-use Rattle.gate_action.specs.Outcome.{takes}
-use Rattle.gate.specs.Gate.{distance}
+use Rattle.tick.specs.Outcome.{takes}
+use Rattle.vision.specs.Gate.{distance}
 use Rattle.vision.specs.Vision.{active, clock_after, vision_after}
 use Rattle.vision.specs.Since.{since_taken, clock_since}
 use Rattle.vision.proofs.Outcomes.{taken_restarts, refused_waits}

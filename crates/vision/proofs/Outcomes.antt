@@ -14,14 +14,14 @@ use Rattle.params.specs.Params.{vision_seed_samples, vision_seed_pos_std_thresh_
 use Rattle.na.specs.declared.Vector3f.{Vector3f}
 use Rattle.na.specs.declared.Vector6f.{Vector6f}
 use Rattle.na.specs.Vector.{zero_float}
-use Rattle.seeding.specs.declared.Seeding.{Seeding}
-use Rattle.gate.specs.declared.VisionGateState.{VisionGateState}
-use Rattle.gate.specs.declared.VisionGateState.TheVariants as Gate
-use Rattle.gate_action.specs.declared.GateAction.TheVariants.{Accumulate, SeedComplete, SeedReset, Accept, AcceptJump, FirstReject, Reject}
-use Rattle.gate.specs.declared.Judgement.{Judgement}
-use Rattle.gate_action.specs.Outcome.{takes}
-use Rattle.seeding.specs.Seeding.{fresh_seeding, gathered, deviation_x, deviation_y, steady}
-use Rattle.gate.specs.Gate.{seeding_judged, distance, radius, tracking_judged, sighting_judged, quiet, judged}
+use Rattle.vision.specs.declared.seeding.Seeding.{Seeding}
+use Rattle.vision.specs.declared.gate.VisionGateState.{VisionGateState}
+use Rattle.vision.specs.declared.gate.VisionGateState.TheVariants as Gate
+use Rattle.tick.specs.declared.action.GateAction.TheVariants.{Accumulate, SeedComplete, SeedReset, Accept, AcceptJump, FirstReject, Reject}
+use Rattle.vision.specs.declared.gate.Judgement.{Judgement}
+use Rattle.tick.specs.Outcome.{takes}
+use Rattle.vision.specs.Seeding.{fresh_seeding, gathered, deviation_x, deviation_y, steady}
+use Rattle.vision.specs.Gate.{seeding_judged, distance, radius, tracking_judged, sighting_judged, quiet, judged}
 
 -- ---- tracking
 

@@ -15,11 +15,11 @@ use Rattle.na.specs.Vector.{zero_float}
 use Rattle.tick_length.specs.TickLength.{seconds_of}
 use Rattle.na.specs.declared.Vector3f.{Vector3f}
 use Rattle.na.specs.declared.Vector6f.{Vector6f}
-use Rattle.gate.specs.declared.VisionGateState.TheVariants.{Tracking}
-use Rattle.gate_action.specs.declared.GateAction.TheVariants.{FirstReject, Reject}
-use Rattle.gate_action.specs.Outcome.{takes}
+use Rattle.vision.specs.declared.gate.VisionGateState.TheVariants.{Tracking}
+use Rattle.tick.specs.declared.action.GateAction.TheVariants.{FirstReject, Reject}
+use Rattle.tick.specs.Outcome.{takes}
 use Rattle.std.specs.Prelude.{Some}
-use Rattle.gate.specs.Gate.{distance, radius, tracking_judged, sighting_judged, judged}
+use Rattle.vision.specs.Gate.{distance, radius, tracking_judged, sighting_judged, judged}
 use Rattle.vision.specs.Since.{since_taken}
 use Rattle.vision.proofs.Least.{AtLeast, add_least, double_least, below_least, least_not_zero}
 use Rattle.vision.proofs.Ticks.{exact_at, sum_reaches}

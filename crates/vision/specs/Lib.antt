@@ -1,3 +1,5 @@
--- What the contracts of `vision` cite: document 01, 'Gate'. Definitions only; the laws about them stand in proofs/. Assumes nothing.
+-- What the contracts of `vision` cite: document 01, 'Gate'. Definitions only. Assumes nothing.
 pub mod Vision
 pub mod Since
+pub mod Seeding
+pub mod Gate

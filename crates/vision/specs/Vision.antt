@@ -6,12 +6,12 @@ use Rattle.na.specs.declared.Vector3f.{Vector3f}
 use Rattle.na.specs.declared.Vector6f.{Vector6f}
 use Rattle.na.specs.Vector.{zero_float}
 use Rattle.params.specs.Params.{vision_active_timeout_s, vision_clock_start_s}
-use Rattle.gate.specs.declared.VisionGateState.TheVariants as Gate
+use Rattle.vision.specs.declared.gate.VisionGateState.TheVariants as Gate
 use Rattle.vision.specs.declared.Vision.{Vision}
 use Rattle.vision.specs.declared.VisionAnswer.{VisionAnswer}
-use Rattle.gate_action.specs.Outcome.{takes}
-use Rattle.seeding.specs.Seeding.{fresh_seeding}
-use Rattle.gate.specs.Gate.{judged}
+use Rattle.tick.specs.Outcome.{takes}
+use Rattle.vision.specs.Seeding.{fresh_seeding}
+use Rattle.vision.specs.Gate.{judged}
 
 -- 'Active: <= 0.5', of the vision clock
 unfoldable pub active : Float → Bool

@@ -1,14 +1,17 @@
 // The gate of `update_state_estimate` and the vision clock together, a tick at a time.
 #![tactic(auto)]
 
+pub mod gate; // gate.rt: which sightings are taken
+pub mod seeding; // seeding.rt: what a seeding gathers
+
 ghost use Rattle.std.specs.Prelude.{◌≡◌};
 ghost use Rattle.vision.specs.Vision.{clock_after, active, new_vision, vision_after};
 
-use gate::{Judgement, VisionGateState};
-use gate_action::GateAction;
+use crate::gate::{Judgement, VisionGateState};
+use crate::seeding::Seeding;
 use na::{Vector3f, Vector6f};
 use params::{VISION_ACTIVE_TIMEOUT_S, VISION_CLOCK_START_S};
-use seeding::Seeding;
+use tick::action::GateAction;
 
 #[derive(Clone, Copy)]
 pub struct Vision {

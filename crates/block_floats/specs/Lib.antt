@@ -1,2 +1,0 @@
--- What the contracts of `block_floats` cite. Assumes nothing.
-pub mod Floats

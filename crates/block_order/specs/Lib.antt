@@ -1,2 +1,0 @@
--- What the contracts of `block_order` cite. Assumes nothing.
-pub mod Order

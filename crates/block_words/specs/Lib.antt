@@ -1,2 +1,0 @@
--- What the contracts of `block_words` cite. Assumes nothing.
-pub mod Word

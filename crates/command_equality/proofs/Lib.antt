@@ -1,2 +1,0 @@
--- Laws of equality. Assumes nothing.
-pub mod Laws

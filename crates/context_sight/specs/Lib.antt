@@ -1,2 +1,0 @@
--- What the contracts of `context_sight` cite. Definitions only. Assumes nothing.
-pub mod Sight

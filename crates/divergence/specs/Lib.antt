@@ -1,3 +1,0 @@
--- What the contracts of `divergence` cite: document 01, 'Steer', sentence by sentence. Definitions only.
--- Assumes nothing.
-pub mod Divergence

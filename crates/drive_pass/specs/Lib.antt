@@ -1,2 +1,0 @@
--- What the contracts of `drive_pass` cite. Assumes nothing.
-pub mod Pass

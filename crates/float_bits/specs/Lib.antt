@@ -1,3 +1,0 @@
--- What the contracts of `float_bits` cite: document 01, 'Stand-ins', from IEEE 754. Definitions only; the laws about them stand in proofs/.
--- Assumes nothing.
-pub mod Magnitude

@@ -1,9 +1,0 @@
--- Every row is multiplied.
-use Rattle.std.proofs.Common.{rules}
-use Rattle.na.proofs.Arrays.{filled_from}
-use Rattle.matrices.specs.Matrix.{product_of}
-use Rattle.matrices.proofs.matrix.Matrix.mul.Goals as goal
-
-pub returns : goal.returns
-unfolding product_of
-returns g c = filled_from _ _ _ _ (search rules) c.loop-i.invariant.0 c.loop-i.invariant.1 c.loop-i-test.false

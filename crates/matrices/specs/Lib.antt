@@ -1,4 +1,0 @@
--- What the contracts of `matrices` cite: document 01, 'Records' and 'Stand-ins'. Definitions only; the laws about them stand in proofs/.
--- Assumes nothing.
-pub mod Matrix
-pub mod Rotation

@@ -1,3 +1,0 @@
--- What the contracts of `recovery` cite: document 01, 'Steer', sentence by sentence. Definitions only; the laws about them stand in proofs/.
--- Assumes nothing.
-pub mod Recovery

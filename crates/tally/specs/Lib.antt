@@ -1,2 +1,0 @@
--- What the contracts of `tally` cite. Assumes nothing.
-pub mod Tally

@@ -1,2 +1,0 @@
--- What the contracts of `tick_calls` cite. Assumes nothing.
-pub mod Tick

@@ -1,3 +1,0 @@
--- Laws that belong to no one function, and a case that is computed. Assumes nothing.
-pub mod Bound
-pub mod Cases

@@ -1,2 +1,0 @@
--- What the contracts of `totals_text` cite. Definitions only. Assumes nothing.
-pub mod Totals

@@ -1,4 +1,0 @@
--- Laws that belong to no one function, and a case that is computed. Assumes nothing.
-pub mod Library
-pub mod Bound
-pub mod Cases
