@@ -3,12 +3,12 @@
 // length up to 1,024 bytes. Of each a glyph is printed.
 #![tactic(auto)]
 
-use blocks::words::word_at;
-use drive_blocks::drive;
-use drive_blocks::pass::Pass;
 use full_read::read_full;
 use line_text::Line;
+use pass::blocks::drive;
+use pass::driven::Pass;
 use std::io;
+use tick_block::words::word_at;
 
 // A refusal as a hexadecimal digit. A `u8`, as it is the number that drive's line has.
 fn digit(refusal: u8) -> u8 {

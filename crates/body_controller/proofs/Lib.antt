@@ -1,2 +1,2 @@
--- Laws that belong to no one function. Assumes nothing.
+-- Laws and lemmas.
 pub mod Numbers

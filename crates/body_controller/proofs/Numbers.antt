@@ -1,12 +1,12 @@
 -- Plan's answers at its turn have document 01's numbers, in its order of trial. Assumes nothing.
 use Rattle.std.proofs.Common.{◌≡◌, ℕ, suc, Bool, true, false, cond, eqb, List, sym, refl, arith, le-ltb, eqb-true, Float, Result, Ok, Err}
 use borrow.Author.Tests.{eqb-false}
-use Rattle.refusal.specs.declared.Refusal.{Refusal}
-use Rattle.refusal.specs.declared.Refusal.TheVariants as Why
-use Rattle.refusal.specs.Refusal.{refusal_number, number_of}
-use Rattle.cmd.specs.declared.ManeuverCommand.{ManeuverCommand}
-use Rattle.cmd.specs.Command.{is_mode, command_from}
-use Rattle.inputs.specs.declared.PlanInput.{PlanInput}
+use Rattle.tick.specs.declared.refusal.Refusal.{Refusal}
+use Rattle.tick.specs.declared.refusal.Refusal.TheVariants as Why
+use Rattle.tick.specs.Refusal.{refusal_number, number_of}
+use Rattle.tick.specs.declared.command.ManeuverCommand.{ManeuverCommand}
+use Rattle.tick.specs.Command.{is_mode, command_from}
+use Rattle.tick.specs.declared.inputs.PlanInput.{PlanInput}
 use Rattle.body_controller.specs.declared.BodyController.{BodyController}
 use Rattle.body_controller.specs.Controller.{refused}
 use Rattle.body_controller.specs.Plan.{planned, plan_with}

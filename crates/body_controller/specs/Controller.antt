@@ -1,11 +1,11 @@
 -- A new controller, and the reset call: document 01, 'The plain drive' and 'The tick's four calls'. Assumes nothing.
 use Rattle.std.specs.Prelude.{ℕ, Result, Err}
 use Rattle.std.specs.Result.{result_map_both}
-use Rattle.na.specs.Vector.{zeros6}
-use Rattle.refusal.specs.declared.Refusal.{Refusal}
-use Rattle.tick_length.specs.TickLength.{tick_length_of}
-use Rattle.context.specs.declared.ControlContext.{ControlContext}
-use Rattle.context.specs.Context.{new_context}
+use Rattle.linear.specs.Vector.{zeros6}
+use Rattle.tick.specs.declared.refusal.Refusal.{Refusal}
+use Rattle.tick.specs.TickLength.{tick_length_of}
+use Rattle.control_context.specs.declared.ControlContext.{ControlContext}
+use Rattle.control_context.specs.Context.{new_context}
 use Rattle.body_controller.specs.declared.BodyController.{BodyController}
 use Rattle.body_controller.specs.declared.Choices.{Choices}
 use Rattle.body_controller.specs.declared.Called.{Called}

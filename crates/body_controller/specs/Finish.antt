@@ -1,14 +1,14 @@
 -- Finish, document 01, 'The tick's four calls' and 'When a call is turned away'. Assumes nothing.
 use Rattle.std.specs.Prelude.{ℕ, Ok}
 use Rattle.std.specs.Option.{option_map_or}
-use Rattle.refusal.specs.declared.Refusal.TheVariants as Why
+use Rattle.tick.specs.declared.refusal.Refusal.TheVariants as Why
 use Rattle.body_controller.specs.declared.BodyController.{BodyController}
 use Rattle.body_controller.specs.declared.Called.{Called}
 use Rattle.body_controller.specs.declared.Turn.TheVariants as Turns
-use Rattle.inputs.specs.declared.FinishInput.{FinishInput}
-use Rattle.call_answers.specs.declared.Finished.{Finished}
-use Rattle.call_answers.specs.declared.Steered.{Steered}
-use Rattle.call_answers.specs.Finish.{finished_by}
+use Rattle.tick.specs.declared.inputs.FinishInput.{FinishInput}
+use Rattle.body_controller.specs.declared.answers.Finished.{Finished}
+use Rattle.body_controller.specs.declared.answers.Steered.{Steered}
+use Rattle.body_controller.specs.FinishAnswer.{finished_by}
 use Rattle.body_controller.specs.Controller.{refused}
 use Rattle.body_controller.specs.Turn.{steered_at}
 

@@ -1,13 +1,13 @@
 -- Plan, document 01, 'The tick's four calls' and 'When a call is turned away'. Assumes nothing.
 use Rattle.std.specs.Prelude.{ℕ, cond, Result, Ok, Err}
-use Rattle.refusal.specs.declared.Refusal.{Refusal}
-use Rattle.refusal.specs.declared.Refusal.TheVariants as Why
-use Rattle.cmd.specs.declared.ManeuverCommand.{ManeuverCommand}
-use Rattle.cmd.specs.Command.{is_mode, command_from}
-use Rattle.maneuvers.specs.declared.answer.PlanAnswer.{PlanAnswer}
-use Rattle.context.specs.declared.plan.Decided.{Decided}
-use Rattle.context.specs.Plan.{decided_on}
-use Rattle.inputs.specs.declared.PlanInput.{PlanInput}
+use Rattle.tick.specs.declared.refusal.Refusal.{Refusal}
+use Rattle.tick.specs.declared.refusal.Refusal.TheVariants as Why
+use Rattle.tick.specs.declared.command.ManeuverCommand.{ManeuverCommand}
+use Rattle.tick.specs.Command.{is_mode, command_from}
+use Rattle.control_context.specs.declared.maneuvers.answer.PlanAnswer.{PlanAnswer}
+use Rattle.control_context.specs.declared.decision.Decided.{Decided}
+use Rattle.control_context.specs.Decision.{decided_on}
+use Rattle.tick.specs.declared.inputs.PlanInput.{PlanInput}
 use Rattle.body_controller.specs.declared.BodyController.{BodyController}
 use Rattle.body_controller.specs.declared.Called.{Called}
 use Rattle.body_controller.specs.declared.Turn.TheVariants as Turns

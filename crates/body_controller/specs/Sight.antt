@@ -1,13 +1,13 @@
 -- Sight, document 01, 'The tick's four calls' and 'When a call is turned away'. Assumes nothing.
 use Rattle.std.specs.Prelude.{ℕ, ◌+◌, ◌%◌, ◌^◌, cond, nat_lt, Ok}
-use Rattle.refusal.specs.declared.Refusal.TheVariants as Why
-use Rattle.tick_length.specs.TickLength.{seconds_of}
+use Rattle.tick.specs.declared.refusal.Refusal.TheVariants as Why
+use Rattle.tick.specs.TickLength.{seconds_of}
 use Rattle.vision.specs.Gate.{sighting_of}
-use Rattle.context.specs.declared.sight.Seen.{Seen}
-use Rattle.context.specs.Sight.{seen}
-use Rattle.inputs.specs.declared.SightInput.{SightInput}
-use Rattle.call_answers.specs.declared.Sighted.{Sighted}
-use Rattle.call_answers.specs.Sight.{sight_answer}
+use Rattle.control_context.specs.declared.state_estimate.Seen.{Seen}
+use Rattle.control_context.specs.StateEstimate.{seen}
+use Rattle.tick.specs.declared.inputs.SightInput.{SightInput}
+use Rattle.body_controller.specs.declared.answers.Sighted.{Sighted}
+use Rattle.body_controller.specs.SightAnswer.{sight_answer}
 use Rattle.tick.specs.Counts.{counted}
 use Rattle.body_controller.specs.declared.BodyController.{BodyController}
 use Rattle.body_controller.specs.declared.Called.{Called}

@@ -1,19 +1,19 @@
 -- Steer, document 01, 'The tick's four calls' and 'When a call is turned away'. Assumes nothing.
 use Rattle.std.specs.Prelude.{ℕ, Bool, cond, ◌&&◌, Ok}
 use Rattle.std.specs.Option.{option_map_or}
-use Rattle.refusal.specs.declared.Refusal.TheVariants as Why
+use Rattle.tick.specs.declared.refusal.Refusal.TheVariants as Why
 use Rattle.body_controller.specs.declared.BodyController.{BodyController}
 use Rattle.body_controller.specs.declared.Called.{Called}
 use Rattle.body_controller.specs.declared.Turn.TheVariants as Turns
-use Rattle.tick_length.specs.TickLength.{seconds_of}
-use Rattle.na.specs.declared.Vector3f.{Vector3f}
-use Rattle.maneuvers.specs.Answer.{needs_plan}
-use Rattle.context.specs.declared.Planned.{Planned}
-use Rattle.context.specs.Context as Context
-use Rattle.context.specs.declared.steer.Tracked.{Tracked}
-use Rattle.context.specs.Steer as Context'
-use Rattle.inputs.specs.declared.SteerInput.{SteerInput}
-use Rattle.call_answers.specs.Steer.{limited}
+use Rattle.tick.specs.TickLength.{seconds_of}
+use Rattle.linear.specs.declared.Vector3f.{Vector3f}
+use Rattle.control_context.specs.Answer.{needs_plan}
+use Rattle.control_context.specs.declared.Planned.{Planned}
+use Rattle.control_context.specs.Context as Context
+use Rattle.control_context.specs.declared.following.Tracked.{Tracked}
+use Rattle.control_context.specs.Following as Context'
+use Rattle.tick.specs.declared.inputs.SteerInput.{SteerInput}
+use Rattle.body_controller.specs.SteerAnswer.{limited}
 use Rattle.body_controller.specs.Controller.{turned_to, refused}
 use Rattle.body_controller.specs.Turn.{planned_at}
 

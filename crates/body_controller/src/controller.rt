@@ -1,20 +1,20 @@
 // The controller, made by `new`, and its parts for readers. The calls are in the modules of their names.
 ghost use Rattle.std.specs.Prelude.{◌≡◌};
-ghost use Rattle.refusal.specs.Refusal.{number_of};
-ghost use Rattle.tick_length.specs.TickLength.{refusal_of};
+ghost use Rattle.tick.specs.Refusal.{number_of};
+ghost use Rattle.tick.specs.TickLength.{refusal_of};
 ghost use Rattle.tick.specs.Outputs.{no_outputs};
 ghost use Rattle.vision.specs.Vision.{active};
-ghost use Rattle.tracking.specs.Divergence.{is_recovering};
+ghost use Rattle.control_context.specs.Divergence.{is_recovering};
 ghost use Rattle.body_controller.specs.Controller.{started, new_of, reset_of, refused};
 
 use crate::{BodyController, Called, Choices, Turn};
-use context::ControlContext;
-use na::ZEROS_6;
-use refusal::Refusal;
+use control_context::ControlContext;
+use linear::ZEROS_6;
+use tick::refusal::Refusal;
+use tick::tick_length::TickLength;
 use tick::{Counts, NO_COUNTS, NO_OUTPUTS, Outputs};
-use tick_length::TickLength;
 
-#[tactic(auto, unfolding(tick::specs::Outputs::no_outputs, na::specs::Vector::zeros3, na::specs::Vector::zeros4))]
+#[tactic(auto, unfolding(tick::specs::Outputs::no_outputs, linear::specs::Vector::zeros3, linear::specs::Vector::zeros4))]
 fn no_outputs() -> Outputs
     ensures { result ≡ no_outputs }
 {
@@ -23,7 +23,7 @@ fn no_outputs() -> Outputs
 
 impl BodyController {
     // The Rust's new controller, with nothing counted, at sight's turn.
-    #[tactic(auto, unfolding(crate::specs::Controller::started, na::specs::Vector::zeros3, na::specs::Vector::zeros6, tick::specs::Counts::no_counts))]
+    #[tactic(auto, unfolding(crate::specs::Controller::started, linear::specs::Vector::zeros3, linear::specs::Vector::zeros6, tick::specs::Counts::no_counts))]
     fn start(choices: Choices) -> BodyController
         ensures { result ≡ started choices }
     {

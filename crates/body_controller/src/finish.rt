@@ -1,13 +1,13 @@
 // Finish, the tick's last call: the outputs.
 ghost use Rattle.std.specs.Prelude.{◌≡◌};
-ghost use Rattle.refusal.specs.Refusal.{number_of};
+ghost use Rattle.tick.specs.Refusal.{number_of};
 ghost use Rattle.body_controller.specs.Finish.{finish_of, finish_refusal};
 
+use crate::answers::Finished;
+use crate::answers::finish::finish_by;
 use crate::{BodyController, Called, Turn};
-use call_answers::Finished;
-use call_answers::finish::finish_by;
-use inputs::FinishInput;
-use refusal::Refusal;
+use tick::inputs::FinishInput;
+use tick::refusal::Refusal;
 
 impl BodyController {
     #[tactic(auto, unfolding(crate::specs::Finish::finish_of, crate::specs::Controller::refused))]

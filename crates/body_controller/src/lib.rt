@@ -2,17 +2,18 @@
 // reset may come at any turn. Each call takes the controller and hands it back beside its answer.
 #![tactic(auto)]
 
+pub mod answers; // answers.rt: What the calls sight, steer and finish work out of their inputs once the context has moved: their
 pub mod controller; // controller.rt: the controller, new, reset and its parts for readers
 pub mod finish; // finish.rt: outputs
 pub mod plan; // plan.rt: the estimate and the decision
 pub mod sight; // sight.rt: the gate
 pub mod steer; // steer.rt: tracking and recovery
 
-use call_answers::Steered;
-use context::{ControlContext, Planned};
-use refusal::Refusal;
+use crate::answers::Steered;
+use control_context::{ControlContext, Planned};
+use tick::refusal::Refusal;
+use tick::tick_length::TickLength;
 use tick::{Counts, Outputs};
-use tick_length::TickLength;
 
 // What is chosen once, at the start.
 #[derive(Clone, Copy)]

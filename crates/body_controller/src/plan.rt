@@ -1,15 +1,15 @@
 // Plan, the tick's second call: the estimate is set, and what is to be tracked is decided.
 ghost use Rattle.std.specs.Prelude.{◌≡◌};
-ghost use Rattle.refusal.specs.Refusal.{number_of};
+ghost use Rattle.tick.specs.Refusal.{number_of};
 ghost use Rattle.body_controller.specs.Plan.{planned, plan_of, plan_refusal};
 
 use crate::{BodyController, Called, Turn};
-use cmd::ManeuverCommand;
-use context::Planned;
-use context::plan::{Decided, decide_on};
-use inputs::PlanInput;
-use maneuvers::answer::PlanAnswer;
-use refusal::Refusal;
+use control_context::Planned;
+use control_context::decision::{Decided, decide_on};
+use control_context::maneuvers::answer::PlanAnswer;
+use tick::command::ManeuverCommand;
+use tick::inputs::PlanInput;
+use tick::refusal::Refusal;
 
 impl BodyController {
     // The controller after the decision on this command.

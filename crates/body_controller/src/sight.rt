@@ -1,14 +1,14 @@
 // Sight, the tick's first call: what becomes of the sighting.
 ghost use Rattle.std.specs.Prelude.{◌≡◌};
-ghost use Rattle.refusal.specs.Refusal.{number_of};
+ghost use Rattle.tick.specs.Refusal.{number_of};
 ghost use Rattle.body_controller.specs.Sight.{sighted, sight_of, sight_refusal};
 
+use crate::answers::Sighted;
+use crate::answers::sight::sight_answer;
 use crate::{BodyController, Called, Turn};
-use call_answers::Sighted;
-use call_answers::sight::sight_answer;
-use context::sight::{Seen, see};
-use inputs::SightInput;
-use refusal::Refusal;
+use control_context::state_estimate::{Seen, see};
+use tick::inputs::SightInput;
+use tick::refusal::Refusal;
 
 // Ticks that a controller can count.
 pub const TICK_LIMIT: u32 = 16_777_216;

@@ -1,16 +1,16 @@
 // Steer, the tick's third call: tracking and recovery, stop and the twist's limits.
 ghost use Rattle.std.specs.Prelude.{◌≡◌};
-ghost use Rattle.refusal.specs.Refusal.{number_of};
+ghost use Rattle.tick.specs.Refusal.{number_of};
 ghost use Rattle.body_controller.specs.Steer.{steered, planner_failed, steer_of, steer_refusal};
 
+use crate::answers::Limited;
+use crate::answers::steer::limit;
 use crate::{BodyController, Called, Turn};
-use call_answers::Limited;
-use call_answers::steer::limit;
-use context::Planned;
-use context::steer::{Tracked, steer};
-use inputs::SteerInput;
-use na::Vector3f;
-use refusal::Refusal;
+use control_context::Planned;
+use control_context::following::{Tracked, steer};
+use linear::Vector3f;
+use tick::inputs::SteerInput;
+use tick::refusal::Refusal;
 
 impl BodyController {
     // The context steered, and its setpoints limited; finish is next.

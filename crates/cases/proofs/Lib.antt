@@ -1,2 +1,2 @@
--- Document 01's starred cases. Assumes nothing.
+-- Laws and lemmas.
 pub mod Starred

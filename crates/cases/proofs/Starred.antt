@@ -3,14 +3,14 @@ use Rattle.std.proofs.Common.{◌≡◌, ℕ, Bool, true, false, ◌&&◌, T, eq
 use Rattle.ieee754.proofs.RootCases as Root
 use Rattle.ieee754.proofs.RemainderCases as Remainder
 use Rattle.ieee754.proofs.HypotCases as Hypot
-use Rattle.tick_length.specs.TickLength.{is_tick_length, tick_length_of}
-use Rattle.tick_length.proofs.Cases as Length
-use Rattle.active_brake.specs.Brake.{brake_of}
-use Rattle.active_brake.proofs.WheelCases as Wheel
-use Rattle.first_order_lag.specs.EncoderLag.{lag_of}
-use Rattle.first_order_lag.proofs.EncoderCases as Lag
+use Rattle.tick.specs.TickLength.{is_tick_length, tick_length_of}
+use Rattle.tick.proofs.TickLengthCases as Length
+use Rattle.controllers.specs.Brake.{brake_of}
+use Rattle.controllers.proofs.WheelCases as Wheel
+use Rattle.controllers.specs.EncoderLag.{lag_of}
+use Rattle.controllers.proofs.EncoderCases as Lag
 use Rattle.vision.proofs.Cases as Gate
-use Rattle.tracking.proofs.ClampedCases as Limits
+use Rattle.control_context.proofs.ClampedCases as Limits
 use Rattle.body_controller.specs.Controller.{new_of}
 use Rattle.cases.specs.Starred.{float, current_bits, NumberFor, Starred}
 

@@ -1,2 +1,2 @@
--- Document 01's starred cases in one statement. Assumes nothing.
+-- Definitions that the contracts of `cases` cite.
 pub mod Starred

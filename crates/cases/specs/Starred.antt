@@ -5,17 +5,17 @@ use Rattle.std.specs.Float.Ieee.{of_bits, to_bits}
 use Rattle.ieee754.specs.Root.{square_root}
 use Rattle.ieee754.specs.Remainder.{remainder_by, tau}
 use Rattle.ieee754.specs.Hypot.{hypotenuse}
-use Rattle.na.specs.declared.Vector3f.{Vector3f}
-use Rattle.na.specs.Vector.{zero_float}
-use Rattle.tick_length.specs.TickLength.{is_tick_length, seconds_of, micros_of}
-use Rattle.pid.specs.Axis.{calculated}
-use Rattle.active_brake.specs.Wheel.{wheel_controller}
-use Rattle.active_brake.specs.Brake as Brake
-use Rattle.first_order_lag.specs.EncoderLag as Lag
+use Rattle.linear.specs.declared.Vector3f.{Vector3f}
+use Rattle.linear.specs.Vector.{zero_float}
+use Rattle.tick.specs.TickLength.{is_tick_length, seconds_of, micros_of}
+use Rattle.controllers.specs.Axis.{calculated}
+use Rattle.controllers.specs.Wheel.{wheel_controller}
+use Rattle.controllers.specs.Brake as Brake
+use Rattle.controllers.specs.EncoderLag as Lag
 use Rattle.vision.specs.Vision.{active}
 use Rattle.vision.specs.Since.{clock_since}
-use Rattle.tracking.specs.Clamped.{twist_clamped}
-use Rattle.refusal.specs.Refusal.{number_of}
+use Rattle.control_context.specs.Clamped.{twist_clamped}
+use Rattle.tick.specs.Refusal.{number_of}
 use Rattle.body_controller.specs.Controller.{new_of}
 
 -- the float with these bits

@@ -1,6 +1,6 @@
 // The tick limit: quiet blocks up to the first that is refused with 3.
 use crate::drive_next;
-use drive_blocks::pass::Pass;
+use pass::driven::Pass;
 use std::io;
 
 // One block more than a pass can drive.

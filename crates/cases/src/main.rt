@@ -5,12 +5,12 @@
 
 mod limit; // limit.rt: a pass of 16,777,217 blocks
 
-use drive_blocks::pass::Pass;
-use drive_text::drive_block;
-use drive_text::driven::Written;
-use drive_text::last::write_last;
 use full_read::read_full;
 use limit::drive_to_limit;
+use pass::batch::drive_block;
+use pass::driven::Pass;
+use pass::last::write_last;
+use pass::written::Written;
 use std::io;
 
 // More blocks than the input has.

@@ -3,10 +3,10 @@
 // gives is written: here is nothing else. A failed read or write ends it.
 #![tactic(auto)]
 
-use drive_blocks::pass::Pass;
-use drive_text::drive_batch;
-use drive_text::last::write_last;
 use full_read::read_full;
+use pass::batch::drive_batch;
+use pass::driven::Pass;
+use pass::last::write_last;
 use std::io;
 
 // Blocks are read 128 at a time; these many turns read one block more than a pass can drive.

@@ -1,2 +1,2 @@
--- What the contract of `full_read` cites. Assumes nothing.
+-- Definitions that the contracts of `full_read` cite.
 pub mod FullRead

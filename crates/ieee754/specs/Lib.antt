@@ -1,4 +1,4 @@
--- What the contracts of `ieee754` cite: document 01, 'Stand-ins', from IEEE 754. Definitions only. Assumes nothing.
+-- Definitions that the contracts of `ieee754` cite.
 pub mod Magnitude
 pub mod Clamp
 pub mod Root

@@ -1,4 +1,4 @@
--- Laws that belong to no one function, and cases that are computed. Assumes nothing.
+-- Laws and lemmas.
 pub mod Bound
 pub mod Cases
 pub mod Growing

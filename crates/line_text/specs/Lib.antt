@@ -1,4 +1,4 @@
--- What the contracts of `line_text` cite: document 01, 'Cases', program `drive`. Definitions only. Assumes nothing.
+-- Definitions that the contracts of `line_text` cite.
 pub mod Text
 pub mod Puts
 pub mod Pieces

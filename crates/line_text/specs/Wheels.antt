@@ -2,7 +2,7 @@
 use Rattle.std.specs.Prelude.{ℕ, zero, suc, ◌+◌, ◌/◌, ◌%◌, cond, List, [], ◌∷◌, ◌++◌, ltb, Float}
 use Rattle.std.specs.Float.{binary32}
 use Rattle.std.specs.Float.Ieee.{to_bits}
-use Rattle.na.specs.declared.Vector4f.{Vector4f}
+use Rattle.linear.specs.declared.Vector4f.{Vector4f}
 use Rattle.line_text.specs.Pieces.{field}
 
 -- a hexadecimal digit: `0` to `9`, then `a` to `f`

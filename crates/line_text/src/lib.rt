@@ -14,7 +14,7 @@ ghost use Rattle.line_text.specs.Text.{ending_text, line_text, refused_text, tic
 use crate::marks::marks;
 use crate::pieces::Text;
 use crate::wheels::push_wheels;
-use na::Vector4f;
+use linear::Vector4f;
 
 // How many bytes hold any line.
 pub const LINE: usize = 128;

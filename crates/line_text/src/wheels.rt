@@ -6,7 +6,7 @@ ghost use Rattle.line_text.specs.Wheels.{hex, wheels_text};
 
 use crate::pieces::Text;
 use ieee754::bits::to_bits;
-use na::Vector4f;
+use linear::Vector4f;
 
 // A float's bits. (Four bytes fill eight digits, so the library answers no error.)
 #[tactic(auto, using(crate::proofs::Library::same), unfolding(crate::specs::Wheels::hex))]

@@ -1,2 +1,4 @@
--- Laws that belong to no one function. Assumes nothing.
+-- Laws and lemmas.
+pub mod VectorLaws
+pub mod Arrays
 pub mod Products

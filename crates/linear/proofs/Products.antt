@@ -7,7 +7,7 @@ use Rattle.std.specs.List.{FoldsTo, zip, fold, reduce}
 use Rattle.std.specs.Option.{unwrap_or}
 use Rattle.std.proofs.lemmas.Iterator.{YieldsList, items_from_drains}
 use lib.Ieee.{binary32, add, mul}
-use Rattle.na.specs.Vector.{zero_float, add_products, dot_of}
+use Rattle.linear.specs.Vector.{zero_float, add_products, dot_of}
 
 -- ---- a chain that ends in `reduce`, whose closure computes h
 

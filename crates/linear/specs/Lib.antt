@@ -1,3 +1,4 @@
--- What the contracts of `linear` cite: document 01, 'Records' and 'Stand-ins'. Definitions only. Assumes nothing.
+-- Definitions that the contracts of `linear` cite.
+pub mod Vector
 pub mod Matrix
 pub mod Rotation

@@ -1,10 +1,10 @@
 -- Rotation by a given cosine and sine, document 01, 'Stand-ins'. Assumes nothing.
 use Rattle.std.specs.Prelude.{[], ◌∷◌}
 use Rattle.std.specs.Float.Ieee.{neg}
-use Rattle.na.specs.declared.Vector3f.{Vector3f}
+use Rattle.linear.specs.declared.Vector3f.{Vector3f}
 use Rattle.linear.specs.declared.matrix.Matrix.{Matrix}
 use Rattle.linear.specs.declared.rotation.Rotation.{Rotation}
-use Rattle.na.specs.Vector.{zero_float, one_float, entries3, vector3_of}
+use Rattle.linear.specs.Vector.{zero_float, one_float, entries3, vector3_of}
 use Rattle.linear.specs.Matrix.{product_of}
 
 -- rows (c, -s, 0), (s, c, 0), (0, 0, 1)

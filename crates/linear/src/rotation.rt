@@ -2,8 +2,7 @@
 ghost use Rattle.std.specs.Prelude.{◌≡◌};
 ghost use Rattle.linear.specs.Rotation.{z_rotation, to_global, to_local};
 
-use crate::Matrix3;
-use na::Vector3f;
+use crate::{Matrix3, Vector3f};
 
 // By the angle with this cosine and sine.
 #[derive(Clone, Copy)]

@@ -1,11 +1,11 @@
 // The operations on vectors that the tick uses and no others.
 
 ghost use Rattle.std.specs.Prelude.{◌≡◌};
-ghost use Rattle.na.specs.Vector.{sum_of, difference_of, scaled, dot_of};
+ghost use Rattle.linear.specs.Vector.{sum_of, difference_of, scaled, dot_of};
 
-use na::Vector3f;
+use crate::Vector3f;
 
-#[tactic(auto, unfolding(na::specs::Vector::sum_of))]
+#[tactic(auto, unfolding(crate::specs::Vector::sum_of))]
 pub fn add(v: Vector3f, o: Vector3f) -> Vector3f
     ensures { result ≡ sum_of v o }
 {
@@ -16,7 +16,7 @@ pub fn add(v: Vector3f, o: Vector3f) -> Vector3f
     }
 }
 
-#[tactic(auto, unfolding(na::specs::Vector::difference_of))]
+#[tactic(auto, unfolding(crate::specs::Vector::difference_of))]
 pub fn sub(v: Vector3f, o: Vector3f) -> Vector3f
     ensures { result ≡ difference_of v o }
 {
@@ -28,7 +28,7 @@ pub fn sub(v: Vector3f, o: Vector3f) -> Vector3f
 }
 
 // Each entry times k.
-#[tactic(auto, unfolding(na::specs::Vector::scaled))]
+#[tactic(auto, unfolding(crate::specs::Vector::scaled))]
 pub fn scale(v: Vector3f, k: f32) -> Vector3f
     ensures { result ≡ scaled v k }
 {

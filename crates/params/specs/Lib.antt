@@ -1,2 +1,2 @@
--- What the constants of `params` are. Definitions only; proofs/ ties each to the decimals that the Rust writes. Assumes nothing.
+-- Definitions that the contracts of `params` cite.
 pub mod Params

@@ -2,7 +2,7 @@
 use Rattle.std.specs.Prelude.{ℕ, List, [], ◌∷◌, Float}
 use Rattle.std.specs.Float.{binary32}
 use Rattle.std.specs.Float.Ieee.{of_bits}
-use Rattle.na.specs.declared.Vector3f.{Vector3f}
+use Rattle.linear.specs.declared.Vector3f.{Vector3f}
 use Rattle.params.specs.declared.PidGains.{PidGains}
 use Rattle.params.specs.declared.TrackingErrors.{TrackingErrors}
 use Rattle.params.specs.declared.FrictionGates.{FrictionGates}

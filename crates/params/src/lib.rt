@@ -4,7 +4,9 @@
 // `param_values` ties it to them.
 #![tactic(auto)]
 
-use na::Vector3f;
+pub mod values; // values.rt: Every constant of `params`, in that file's order. The contracts tie each to its bits in
+
+use linear::Vector3f;
 
 // A PID's gains for one axis, a row of the Rust's matrices.
 #[derive(Clone, Copy)]

@@ -12,31 +12,31 @@ use lib.IntN.{pos}
 use lib.Ieee.{Float, binary32, le, of_int}
 use Rattle.std.specs.Prelude.{Result, Ok, Err}
 use Rattle.std.specs.Result.{result_map_both}
-use Rattle.tick_length.specs.declared.TickLength.{TickLength}
-use Rattle.tick_length.specs.TickLength.{is_tick_length, tick_length_of, seconds_of}
+use Rattle.tick.specs.declared.tick_length.TickLength.{TickLength}
+use Rattle.tick.specs.TickLength.{is_tick_length, tick_length_of, seconds_of}
 use Rattle.vision.specs.declared.gate.VisionGateState.{VisionGateState}
 use Rattle.vision.specs.declared.gate.VisionGateState.TheVariants.{Seeding, Tracking}
 use Rattle.tick.specs.Outcome.{takes}
 use Rattle.vision.specs.Gate.{distance}
 use Rattle.vision.specs.Vision.{active, new_vision}
-use Rattle.memory.specs.Memory.{empty_memory}
+use Rattle.control_context.specs.Memory.{empty_memory}
 use Rattle.vision.proofs.Outcomes.{Small}
 use Rattle.vision.proofs.Held.{Held, held_active, unheld_inactive, held_widens}
 use Rattle.body_controller.specs.declared.BodyController.{BodyController}
 use Rattle.body_controller.specs.declared.Choices.{Choices}
-use Rattle.inputs.specs.declared.SightInput.{SightInput}
-use Rattle.call_answers.specs.declared.Sighted.{Sighted}
+use Rattle.tick.specs.declared.inputs.SightInput.{SightInput}
+use Rattle.body_controller.specs.declared.answers.Sighted.{Sighted}
 use Rattle.body_controller.specs.declared.Called.{Called}
-use Rattle.refusal.specs.declared.Refusal.{Refusal}
-use Rattle.refusal.specs.declared.Refusal.TheVariants as Why
-use Rattle.refusal.specs.Refusal.{number_of}
+use Rattle.tick.specs.declared.refusal.Refusal.{Refusal}
+use Rattle.tick.specs.declared.refusal.Refusal.TheVariants as Why
+use Rattle.tick.specs.Refusal.{number_of}
 use Rattle.body_controller.specs.Turn.{is_sight}
 use Rattle.tick.specs.Counts.{no_counts, count_list}
-use Rattle.context.specs.Context as Context
-use Rattle.context.specs.Sight as ContextSight
+use Rattle.control_context.specs.Context as Context
+use Rattle.control_context.specs.StateEstimate as ContextSight
 use Rattle.body_controller.specs.Controller.{started, new_of, reset_of}
 use Rattle.body_controller.specs.Controller as Controller
-use Rattle.call_answers.specs.Sight.{sight_answer}
+use Rattle.body_controller.specs.SightAnswer.{sight_answer}
 use Rattle.body_controller.specs.Sight.{tick_limit, seen_by, sighted, sight_of}
 use Rattle.body_controller.specs.Plan.{plan_of}
 use Rattle.body_controller.specs.Steer.{steer_of}

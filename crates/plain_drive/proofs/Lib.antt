@@ -1,4 +1,4 @@
--- Demand 3 (`EveryList`) and what carries it. Assumes nothing.
+-- Laws and lemmas.
 pub mod Simulation
 pub mod PlainSteps
 pub mod Watched

@@ -7,26 +7,26 @@ use mathlib.Core.Bool.{Bool, true, false, cond, not, ◌&&◌, ◌||◌, and-not
 use borrow.Author.Tests.{ltb-true}
 use lib.Dec.{ltb}
 use lib.Ieee.{Float}
-use Rattle.na.specs.declared.Vector4f.{Vector4f}
-use Rattle.na.specs.declared.Vector6f.{Vector6f}
+use Rattle.linear.specs.declared.Vector4f.{Vector4f}
+use Rattle.linear.specs.declared.Vector6f.{Vector6f}
 use Rattle.params.specs.Params.{vision_clock_start_s}
 use Rattle.vision.specs.declared.gate.VisionGateState.TheVariants.{Seeding}
 use Rattle.vision.specs.Seeding.{fresh_seeding}
-use Rattle.cmd.specs.declared.ManeuverCommand.{ManeuverCommand}
+use Rattle.tick.specs.declared.command.ManeuverCommand.{ManeuverCommand}
 use Rattle.std.specs.Prelude.{Option, Result, Ok, Err}
-use Rattle.refusal.specs.declared.Refusal.{Refusal}
-use Rattle.maneuvers.specs.declared.answer.PlanAnswer.{PlanAnswer}
-use Rattle.cmd.specs.Command.{command_from}
-use Rattle.tracking.specs.declared.divergence.TrackingDivergenceState.{TrackingDivergenceState}
-use Rattle.tracking.specs.declared.divergence.TrackingDivergenceState.TheVariants.{Normal, Recovering}
-use Rattle.tracking.specs.declared.recovery.RecoveryAnswer.{RecoveryAnswer}
-use Rattle.tracking.specs.Divergence.{is_recovering}
-use Rattle.tracking.specs.ErrorLimits.{at_rest}
-use Rattle.tracking.specs.Recovery.{tracking_error_exceeded, recovery}
-use Rattle.inputs.specs.declared.SightInput.{SightInput}
-use Rattle.inputs.specs.declared.PlanInput.{PlanInput}
-use Rattle.inputs.specs.declared.SteerInput.{SteerInput}
-use Rattle.inputs.specs.declared.FinishInput.{FinishInput}
+use Rattle.tick.specs.declared.refusal.Refusal.{Refusal}
+use Rattle.control_context.specs.declared.maneuvers.answer.PlanAnswer.{PlanAnswer}
+use Rattle.tick.specs.Command.{command_from}
+use Rattle.control_context.specs.declared.divergence.TrackingDivergenceState.{TrackingDivergenceState}
+use Rattle.control_context.specs.declared.divergence.TrackingDivergenceState.TheVariants.{Normal, Recovering}
+use Rattle.control_context.specs.declared.recovery.RecoveryAnswer.{RecoveryAnswer}
+use Rattle.control_context.specs.Divergence.{is_recovering}
+use Rattle.control_context.specs.ErrorLimits.{at_rest}
+use Rattle.control_context.specs.Recovery.{tracking_error_exceeded, recovery}
+use Rattle.tick.specs.declared.inputs.SightInput.{SightInput}
+use Rattle.tick.specs.declared.inputs.PlanInput.{PlanInput}
+use Rattle.tick.specs.declared.inputs.SteerInput.{SteerInput}
+use Rattle.tick.specs.declared.inputs.FinishInput.{FinishInput}
 use Rattle.plain_drive.specs.Calls.{Call, sight, plan, steer, finish, reset, accepted, refused, is_tick, took, is_reset}
 use Rattle.plain_drive.specs.PlainDrive.{DriveTurn, to_sight, to_plan, to_steer, to_finish, DriveState, Step, turned_away, seen, on_sight, decided_on, closed, on_command, on_plan, on_reset, cleared, anew, unplanned, followed, judged_state, turned_to, steered_by, on_steer, on_finish, step}
 

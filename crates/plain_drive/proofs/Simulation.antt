@@ -7,44 +7,44 @@ use mathlib.Core.Bool.{Bool, true, false, cond}
 use mathlib.Core.List.{List}
 use lib.Dec.{eqb, ltb}
 use lib.Ieee.{Float}
-use Rattle.na.specs.declared.Vector4f.{Vector4f}
-use Rattle.tick_length.specs.TickLength.{seconds_of}
+use Rattle.linear.specs.declared.Vector4f.{Vector4f}
+use Rattle.tick.specs.TickLength.{seconds_of}
 use Rattle.tick.specs.declared.action.GateAction.{GateAction}
 use Rattle.tick.specs.declared.action.GateAction.TheVariants.{NoVision, Accumulate, SeedComplete, SeedReset, Accept, AcceptJump, FirstReject, Reject}
 use Rattle.tick.specs.Outcome.{overwrites, number_of}
 use Rattle.vision.specs.Gate.{sighting_of}
 use Rattle.vision.specs.Vision.{new_vision, vision_after}
 use Rattle.std.specs.Prelude.{None, Result, Ok, Err}
-use Rattle.refusal.specs.declared.Refusal.{Refusal}
-use Rattle.refusal.specs.declared.Refusal.TheVariants as Why
-use Rattle.cmd.specs.declared.ManeuverCommand.{ManeuverCommand}
-use Rattle.memory.specs.declared.Memory.{Memory}
-use Rattle.maneuvers.specs.declared.answer.PlanAnswer.{PlanAnswer}
-use Rattle.maneuvers.specs.declared.answer.PlanAnswer.TheVariants as Answers
-use Rattle.cmd.specs.declared.ManeuverCommand.TheVariants as Cmd
-use Rattle.cmd.specs.Command.{position_from, line_from, command_from}
-use Rattle.memory.specs.Memory.{empty_memory, trajectory_dropped, after_tracking}
-use Rattle.tracking.specs.Recovery.{recovery}
+use Rattle.tick.specs.declared.refusal.Refusal.{Refusal}
+use Rattle.tick.specs.declared.refusal.Refusal.TheVariants as Why
+use Rattle.tick.specs.declared.command.ManeuverCommand.{ManeuverCommand}
+use Rattle.control_context.specs.declared.memory.Memory.{Memory}
+use Rattle.control_context.specs.declared.maneuvers.answer.PlanAnswer.{PlanAnswer}
+use Rattle.control_context.specs.declared.maneuvers.answer.PlanAnswer.TheVariants as Answers
+use Rattle.tick.specs.declared.command.ManeuverCommand.TheVariants as Cmd
+use Rattle.tick.specs.Command.{position_from, line_from, command_from}
+use Rattle.control_context.specs.Memory.{empty_memory, trajectory_dropped, after_tracking}
+use Rattle.control_context.specs.Recovery.{recovery}
 use Rattle.body_controller.specs.declared.BodyController.{BodyController}
 use Rattle.tick.specs.declared.Counts.{Counts}
-use Rattle.inputs.specs.declared.SightInput.{SightInput}
-use Rattle.inputs.specs.declared.PlanInput.{PlanInput}
-use Rattle.inputs.specs.declared.SteerInput.{SteerInput}
-use Rattle.inputs.specs.declared.FinishInput.{FinishInput}
-use Rattle.call_answers.specs.declared.Steered.{Steered}
-use Rattle.context.specs.declared.Planned.{Planned}
+use Rattle.tick.specs.declared.inputs.SightInput.{SightInput}
+use Rattle.tick.specs.declared.inputs.PlanInput.{PlanInput}
+use Rattle.tick.specs.declared.inputs.SteerInput.{SteerInput}
+use Rattle.tick.specs.declared.inputs.FinishInput.{FinishInput}
+use Rattle.body_controller.specs.declared.answers.Steered.{Steered}
+use Rattle.control_context.specs.declared.Planned.{Planned}
 use Rattle.tick.specs.Counts.{counted, count_list}
-use Rattle.context.specs.declared.ControlContext.{ControlContext}
-use Rattle.context.specs.declared.steer.Tracked.{Tracked}
-use Rattle.context.specs.Context as Context
-use Rattle.context.specs.Sight as ContextSight
-use Rattle.context.specs.Plan as ContextPlan
-use Rattle.context.specs.Steer as Tracking
+use Rattle.control_context.specs.declared.ControlContext.{ControlContext}
+use Rattle.control_context.specs.declared.following.Tracked.{Tracked}
+use Rattle.control_context.specs.Context as Context
+use Rattle.control_context.specs.StateEstimate as ContextSight
+use Rattle.control_context.specs.Decision as ContextPlan
+use Rattle.control_context.specs.Following as Tracking
 use Rattle.body_controller.specs.declared.Turn.{Turn}
 use Rattle.body_controller.specs.declared.Turn.TheVariants as Turns
 use Rattle.body_controller.specs.Turn.{is_sight, is_plan, planned_at, steered_at}
 use Rattle.body_controller.specs.Controller.{reset_of, refused}
-use Rattle.call_answers.specs.Sight.{sight_answer}
+use Rattle.body_controller.specs.SightAnswer.{sight_answer}
 use Rattle.body_controller.specs.Sight.{tick_limit, sighted, sight_of}
 use Rattle.body_controller.specs.Plan.{planned, plan_with, plan_of}
 use Rattle.body_controller.specs.Steer as Steer

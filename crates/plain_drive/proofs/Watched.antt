@@ -9,7 +9,7 @@ use mathlib.Core.Bool.{Bool, true, false, cond, not, ◌&&◌, ◌||◌}
 use mathlib.Core.List.{List, [], ◌∷◌, head-eq_of_cons-eq, tail-eq_of_cons-eq}
 use lib.Dec.{lit<, lit≤}
 use lib.ListN.{length}
-use Rattle.tick_length.specs.TickLength.{seconds_of}
+use Rattle.tick.specs.TickLength.{seconds_of}
 use Rattle.tick.specs.declared.action.GateAction.{GateAction}
 use Rattle.tick.specs.declared.action.GateAction.TheVariants.{NoVision, Accumulate, SeedComplete, SeedReset, Accept, AcceptJump, FirstReject, Reject}
 use Rattle.vision.specs.declared.Vision.{Vision}
@@ -18,7 +18,7 @@ use Rattle.vision.specs.Gate.{sighting_of, judged}
 use Rattle.vision.specs.Vision.{vision_after}
 use Rattle.vision.proofs.Outcomes.{Small, fresh_small, stays_small, Seeds, refused_seeds}
 use Rattle.vision.proofs.Held.{Held, Unheld, taken_held, held_waits, unheld_waits}
-use Rattle.inputs.specs.declared.SightInput.{SightInput}
+use Rattle.tick.specs.declared.inputs.SightInput.{SightInput}
 use Rattle.plain_drive.specs.Calls.{Call, is_tick, took}
 use Rattle.plain_drive.specs.PlainDrive.{DriveState, Step, start, grown, seen, step, driven, driven_replies, resets_after}
 use Rattle.plain_drive.specs.EveryList.{Entry, calls_of, replies_of, ticks_in, since, holding, total}

@@ -2,11 +2,11 @@
 use Rattle.std.specs.Prelude.{ℕ, Bool, true, false}
 use Rattle.tick.specs.declared.action.GateAction.{GateAction}
 use Rattle.tick.specs.Outcome.{takes}
-use Rattle.maneuvers.specs.declared.answer.PlanAnswer.{PlanAnswer}
-use Rattle.inputs.specs.declared.SightInput.{SightInput}
-use Rattle.inputs.specs.declared.PlanInput.{PlanInput}
-use Rattle.inputs.specs.declared.SteerInput.{SteerInput}
-use Rattle.inputs.specs.declared.FinishInput.{FinishInput}
+use Rattle.control_context.specs.declared.maneuvers.answer.PlanAnswer.{PlanAnswer}
+use Rattle.tick.specs.declared.inputs.SightInput.{SightInput}
+use Rattle.tick.specs.declared.inputs.PlanInput.{PlanInput}
+use Rattle.tick.specs.declared.inputs.SteerInput.{SteerInput}
+use Rattle.tick.specs.declared.inputs.FinishInput.{FinishInput}
 
 -- a call, with its inputs
 pub data Call : Type 0 where

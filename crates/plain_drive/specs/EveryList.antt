@@ -7,17 +7,17 @@ use Rattle.vision.specs.declared.gate.VisionGateState.{VisionGateState}
 use Rattle.vision.specs.declared.gate.VisionGateState.TheVariants.{Seeding, Tracking}
 use Rattle.vision.specs.Gate.{distance}
 use Rattle.vision.specs.Vision.{active}
-use Rattle.refusal.specs.declared.Refusal.{Refusal}
-use Rattle.refusal.specs.Refusal.{refusal_number}
-use Rattle.na.specs.declared.Vector3f.{Vector3f}
-use Rattle.maneuvers.specs.declared.answer.PlanAnswer.{PlanAnswer}
-use Rattle.call_answers.specs.declared.Sighted.{Sighted}
-use Rattle.call_answers.specs.declared.Finished.{Finished}
+use Rattle.tick.specs.declared.refusal.Refusal.{Refusal}
+use Rattle.tick.specs.Refusal.{refusal_number}
+use Rattle.linear.specs.declared.Vector3f.{Vector3f}
+use Rattle.control_context.specs.declared.maneuvers.answer.PlanAnswer.{PlanAnswer}
+use Rattle.body_controller.specs.declared.answers.Sighted.{Sighted}
+use Rattle.body_controller.specs.declared.answers.Finished.{Finished}
 use Rattle.body_controller.specs.declared.BodyController.{BodyController}
 use Rattle.body_controller.specs.declared.Called.{Called}
 use Rattle.body_controller.specs.declared.Turn.{Turn}
 use Rattle.body_controller.specs.declared.Turn.TheVariants as Turns
-use Rattle.inputs.specs.declared.SightInput.{SightInput}
+use Rattle.tick.specs.declared.inputs.SightInput.{SightInput}
 use Rattle.tick.specs.Counts.{count_list}
 use Rattle.body_controller.specs.Controller.{new_of, reset_of}
 use Rattle.body_controller.specs.Sight.{sight_of}

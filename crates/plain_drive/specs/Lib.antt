@@ -1,5 +1,4 @@
--- The plain drive (`PlainDrive`), and demand 3 over every list of calls (`EveryList`). Definitions only; the proofs stand in proofs/.
--- Assumes nothing.
+-- Definitions that the contracts of `plain_drive` cite.
 pub mod Calls
 pub mod PlainDrive
 pub mod EveryList

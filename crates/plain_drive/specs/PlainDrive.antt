@@ -2,31 +2,31 @@
 -- alone.' Of the rules it cites those that the section refers to, gate, clock, decision and recovery, and nothing of the controller.
 -- Assumes nothing.
 use Rattle.std.specs.Prelude.{ℕ, zero, suc, ◌+◌, Bool, true, false, cond, not, ◌&&◌, ◌||◌, List, [], ◌∷◌, ltb, Float, Option, None, Some, Result, Ok, Err}
-use Rattle.na.specs.declared.Vector6f.{Vector6f}
-use Rattle.na.specs.Vector.{zeros6}
+use Rattle.linear.specs.declared.Vector6f.{Vector6f}
+use Rattle.linear.specs.Vector.{zeros6}
 use Rattle.params.specs.Params.{vision_clock_start_s}
-use Rattle.tick_length.specs.TickLength.{seconds_of}
+use Rattle.tick.specs.TickLength.{seconds_of}
 use Rattle.vision.specs.declared.gate.VisionGateState.{VisionGateState}
 use Rattle.vision.specs.declared.gate.VisionGateState.TheVariants.{Seeding}
 use Rattle.tick.specs.Outcome.{takes, overwrites, number_of}
 use Rattle.vision.specs.Seeding.{fresh_seeding}
 use Rattle.vision.specs.Gate.{sighting_of, judged}
 use Rattle.vision.specs.Vision.{active, clock_after}
-use Rattle.cmd.specs.declared.ManeuverCommand.{ManeuverCommand}
-use Rattle.refusal.specs.declared.Refusal.{Refusal}
-use Rattle.memory.specs.declared.Sample.{Sample}
-use Rattle.maneuvers.specs.declared.answer.PlanAnswer.{PlanAnswer}
-use Rattle.maneuvers.specs.declared.answer.PlanAnswer.TheVariants.{Hold, NoVision, Keep, NewPlan}
-use Rattle.cmd.specs.Command.{command_from}
-use Rattle.maneuvers.specs.Plan.{decided}
-use Rattle.tracking.specs.declared.divergence.TrackingDivergenceState.{TrackingDivergenceState}
-use Rattle.tracking.specs.declared.divergence.TrackingDivergenceState.TheVariants.{Normal}
-use Rattle.tracking.specs.declared.recovery.RecoveryAnswer.{RecoveryAnswer}
-use Rattle.tracking.specs.Divergence.{is_recovering}
-use Rattle.tracking.specs.Recovery.{recovery}
-use Rattle.inputs.specs.declared.SightInput.{SightInput}
-use Rattle.inputs.specs.declared.PlanInput.{PlanInput}
-use Rattle.inputs.specs.declared.SteerInput.{SteerInput}
+use Rattle.tick.specs.declared.command.ManeuverCommand.{ManeuverCommand}
+use Rattle.tick.specs.declared.refusal.Refusal.{Refusal}
+use Rattle.tick.specs.declared.sample.Sample.{Sample}
+use Rattle.control_context.specs.declared.maneuvers.answer.PlanAnswer.{PlanAnswer}
+use Rattle.control_context.specs.declared.maneuvers.answer.PlanAnswer.TheVariants.{Hold, NoVision, Keep, NewPlan}
+use Rattle.tick.specs.Command.{command_from}
+use Rattle.control_context.specs.Plan.{decided}
+use Rattle.control_context.specs.declared.divergence.TrackingDivergenceState.{TrackingDivergenceState}
+use Rattle.control_context.specs.declared.divergence.TrackingDivergenceState.TheVariants.{Normal}
+use Rattle.control_context.specs.declared.recovery.RecoveryAnswer.{RecoveryAnswer}
+use Rattle.control_context.specs.Divergence.{is_recovering}
+use Rattle.control_context.specs.Recovery.{recovery}
+use Rattle.tick.specs.declared.inputs.SightInput.{SightInput}
+use Rattle.tick.specs.declared.inputs.PlanInput.{PlanInput}
+use Rattle.tick.specs.declared.inputs.SteerInput.{SteerInput}
 use Rattle.plain_drive.specs.Calls.{Call, sight, plan, steer, finish, reset, Reply, outcome, answer, accepted, refused, is_reset}
 
 -- ---- 'State'

@@ -1,4 +1,7 @@
--- What the contracts of `tick` cite: document 01, 'Gate'. Definitions only. Assumes nothing.
+-- Definitions that the contracts of `tick` cite.
+pub mod Refusal
+pub mod TickLength
 pub mod Counts
 pub mod Outputs
 pub mod Outcome
+pub mod Command

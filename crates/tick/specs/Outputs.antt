@@ -1,5 +1,5 @@
 -- The outputs of a tick, a term of document 01. Assumes nothing.
-use Rattle.na.specs.Vector.{zeros3, zeros4}
+use Rattle.linear.specs.Vector.{zeros3, zeros4}
 use Rattle.tick.specs.declared.Outputs.{Outputs}
 
 -- the outputs of a new or reset controller

@@ -1,10 +1,15 @@
 // Small parts of a tick: the eight outcomes, their counts, and the outputs.
 #![tactic(auto)]
 
+pub mod sample; // sample.rt: A sample of a trajectory
+pub mod refusal; // refusal.rt: Document 01, 'When a call is turned away': why a call or a block is refused, in the order of its
+pub mod tick_length; // tick_length.rt: The tick length, a term of document 01: k/4096 s, with k from 1 to 64
+pub mod command; // command.rt: Commands and their words
+pub mod inputs; // inputs.rt: What the tick's four calls take. Types alone, so that who reads them from a block needs no controller
 pub mod action; // action.rt: the eight outcomes, and what document 01 says of each
 pub mod count; // count.rt: how often each outcome came
 
-use na::{Vector3f, Vector4f, ZEROS_3, ZEROS_4};
+use linear::{Vector3f, Vector4f, ZEROS_3, ZEROS_4};
 
 // In document 01's order, Q to R, under its words for the outcomes.
 #[derive(Clone, Copy)]

@@ -1,2 +1,3 @@
--- Laws that belong to no one function. Assumes nothing.
+-- Laws and lemmas.
+pub mod Vectors
 pub mod Refusal

@@ -5,16 +5,16 @@ use mathlib.Core.Bool.{Bool, true, false, cond}
 use mathlib.Core.List.{List}
 use Rattle.std.specs.Prelude.{Result, Ok, Err}
 use Rattle.std.specs.Result.{result_map_both}
-use Rattle.refusal.specs.declared.Refusal.{Refusal}
-use Rattle.refusal.specs.declared.Refusal.TheVariants as Why
-use Rattle.refusal.specs.Refusal.{refusal_number, number_of}
-use Rattle.tick_length.specs.declared.TickLength.{TickLength}
-use Rattle.tick_length.specs.TickLength.{is_tick_length, tick_length_of}
-use Rattle.cmd.specs.Command.{is_mode}
-use Rattle.blocks.specs.Word.{word_at}
-use Rattle.blocks.specs.Layout as at
-use Rattle.blocks.specs.Check.{spare_zero}
-use Rattle.blocks.specs.Tests.{is_whole, checks, is_version, tested_with, inputs_tested, format_tested, block_tested}
+use Rattle.tick.specs.declared.refusal.Refusal.{Refusal}
+use Rattle.tick.specs.declared.refusal.Refusal.TheVariants as Why
+use Rattle.tick.specs.Refusal.{refusal_number, number_of}
+use Rattle.tick.specs.declared.tick_length.TickLength.{TickLength}
+use Rattle.tick.specs.TickLength.{is_tick_length, tick_length_of}
+use Rattle.tick.specs.Command.{is_mode}
+use Rattle.tick_block.specs.Word.{word_at}
+use Rattle.tick_block.specs.Layout as at
+use Rattle.tick_block.specs.Check.{spare_zero}
+use Rattle.tick_block.specs.Tests.{is_whole, checks, is_version, tested_with, inputs_tested, format_tested, block_tested}
 use Rattle.tick_block.specs.Block.{tick_block, block_read, block_refusal}
 
 -- the number of what the tests show is the answer's

@@ -1,14 +1,14 @@
 -- A tick block, document 01, 'Records', and why one is refused, 'When a call is turned away'. Assumes nothing.
 use Rattle.std.specs.Prelude.{ℕ, cond, List, Result}
 use Rattle.std.specs.Result.{result_map_both}
-use Rattle.tick_length.specs.declared.TickLength.{TickLength}
-use Rattle.tick_length.specs.TickLength.{is_tick_length}
-use Rattle.cmd.specs.Command.{is_mode}
-use Rattle.blocks.specs.Word.{word_at}
-use Rattle.blocks.specs.Layout as at
-use Rattle.blocks.specs.Check.{spare_zero}
-use Rattle.refusal.specs.declared.Refusal.{Refusal}
-use Rattle.blocks.specs.Tests.{is_whole, checks, is_version, block_tested}
+use Rattle.tick.specs.declared.tick_length.TickLength.{TickLength}
+use Rattle.tick.specs.TickLength.{is_tick_length}
+use Rattle.tick.specs.Command.{is_mode}
+use Rattle.tick_block.specs.Word.{word_at}
+use Rattle.tick_block.specs.Layout as at
+use Rattle.tick_block.specs.Check.{spare_zero}
+use Rattle.tick.specs.declared.refusal.Refusal.{Refusal}
+use Rattle.tick_block.specs.Tests.{is_whole, checks, is_version, block_tested}
 use Rattle.tick_block.specs.SightInputs.{sight_input, plan_input}
 use Rattle.tick_block.specs.SteerInputs.{steer_input, finish_input}
 use Rattle.tick_block.specs.declared.TickBlock.{TickBlock}

@@ -1,7 +1,7 @@
 -- The flags of a block, document 01, 'Records'. Assumes nothing.
 use Rattle.std.specs.Prelude.{ℕ, ◌/◌, ◌%◌, ◌^◌, Bool, List, eqb}
-use Rattle.blocks.specs.Word.{word_at}
-use Rattle.blocks.specs.Layout as at
+use Rattle.tick_block.specs.Word.{word_at}
+use Rattle.tick_block.specs.Layout as at
 use Rattle.tick_block.specs.declared.sight.flag.Flag.{Flag}
 use Rattle.tick_block.specs.declared.sight.flag.Flag.TheVariants as F
 

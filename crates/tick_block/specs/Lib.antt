@@ -1,8 +1,14 @@
--- What the contracts of `tick_block` cite: document 01, 'Records' and 'When a call is turned away'. Definitions only. Assumes nothing.
+-- Definitions that the contracts of `tick_block` cite.
+pub mod Word
+pub mod Layout
+pub mod Check
+pub mod Floats
+pub mod Tests
+pub mod Order
 pub mod Block
 pub mod Flags
 pub mod SightParts
-pub mod Command
+pub mod CommandWords
 pub mod SightInputs
 pub mod SteerParts
 pub mod SteerInputs

@@ -1,13 +1,13 @@
 -- The inputs of sight and plan in a block, document 01, 'Records'. Assumes nothing.
 use Rattle.std.specs.Prelude.{ℕ, List}
-use Rattle.inputs.specs.declared.PlanInput.{PlanInput}
-use Rattle.inputs.specs.declared.SightInput.{SightInput}
-use Rattle.blocks.specs.Word.{word_at}
-use Rattle.blocks.specs.Floats.{float_at, vector3_at, vector4_at}
-use Rattle.blocks.specs.Layout as at
+use Rattle.tick.specs.declared.inputs.PlanInput.{PlanInput}
+use Rattle.tick.specs.declared.inputs.SightInput.{SightInput}
+use Rattle.tick_block.specs.Word.{word_at}
+use Rattle.tick_block.specs.Floats.{float_at, vector3_at, vector4_at}
+use Rattle.tick_block.specs.Layout as at
 use Rattle.tick_block.specs.Flags.{seen, halt, estimator_failed}
 use Rattle.tick_block.specs.SightParts.{vector6_at, matrix_at}
-use Rattle.tick_block.specs.Command.{command_words}
+use Rattle.tick_block.specs.CommandWords.{command_words}
 
 -- sight takes sighting, wheels, gyro, predicted state and wheel-to-twist
 unfoldable pub sight_input : List ℕ → SightInput

@@ -2,9 +2,9 @@
 use Rattle.std.specs.Prelude.{ℕ, ◌+◌, ◌*◌, List, map}
 use Rattle.std.specs.List.{range_with_len}
 use Rattle.linear.specs.declared.matrix.Matrix.{Matrix}
-use Rattle.na.specs.declared.Vector6f.{Vector6f}
-use Rattle.na.specs.Vector.{vector6_of}
-use Rattle.blocks.specs.Floats.{floats_at}
+use Rattle.linear.specs.declared.Vector6f.{Vector6f}
+use Rattle.linear.specs.Vector.{vector6_of}
+use Rattle.tick_block.specs.Floats.{floats_at}
 
 -- six of state: x, y, heading, their velocities
 unfoldable pub vector6_at : List ℕ → ℕ → Vector6f

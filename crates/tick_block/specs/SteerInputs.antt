@@ -1,9 +1,9 @@
 -- The inputs of steer and finish in a block, document 01, 'Records'. Assumes nothing.
 use Rattle.std.specs.Prelude.{ℕ, List}
-use Rattle.inputs.specs.declared.FinishInput.{FinishInput}
-use Rattle.inputs.specs.declared.SteerInput.{SteerInput}
-use Rattle.blocks.specs.Floats.{float_at, vector3_at, vector4_at}
-use Rattle.blocks.specs.Layout as at
+use Rattle.tick.specs.declared.inputs.FinishInput.{FinishInput}
+use Rattle.tick.specs.declared.inputs.SteerInput.{SteerInput}
+use Rattle.tick_block.specs.Floats.{float_at, vector3_at, vector4_at}
+use Rattle.tick_block.specs.Layout as at
 use Rattle.tick_block.specs.Flags.{stop, planner_failed}
 use Rattle.tick_block.specs.SightParts.{matrix_at}
 use Rattle.tick_block.specs.SteerParts.{sample_at}

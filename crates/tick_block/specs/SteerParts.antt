@@ -1,7 +1,7 @@
 -- Samples of a block, document 01, 'Records'. Assumes nothing.
 use Rattle.std.specs.Prelude.{ℕ, ◌+◌, List}
-use Rattle.memory.specs.declared.Sample.{Sample}
-use Rattle.blocks.specs.Floats.{vector3_at}
+use Rattle.tick.specs.declared.sample.Sample.{Sample}
+use Rattle.tick_block.specs.Floats.{vector3_at}
 use Rattle.tick_block.specs.SightParts.{vector6_at}
 
 -- a sample is nine floats: six of state, three of acceleration

@@ -7,16 +7,16 @@ pub mod parts; // parts.rt: a matrix
 ghost use Rattle.std.specs.Prelude.{◌≡◌};
 ghost use Rattle.tick_block.specs.SightInputs.{sight_input, plan_input};
 
+use crate::check::MODE;
+use crate::floats::{float_at, floats_at};
 use crate::layout::{ESTIMATE, GYRO, PREDICTED, SIGHTING, WHEEL_TO_TWIST, WHEELS};
 use crate::sight::command::command_words;
 use crate::sight::flag::Flag;
 use crate::sight::parts::matrix_at;
-use blocks::check::MODE;
-use blocks::floats::{float_at, floats_at};
-use blocks::words::word_at;
-use inputs::{PlanInput, SightInput};
+use crate::words::word_at;
+use tick::inputs::{PlanInput, SightInput};
 
-#[tactic(auto, using(blocks::proofs::Vectors::three, blocks::proofs::Vectors::four), unfolding(crate::specs::SightInputs::sight_input, crate::specs::SightParts::vector6_at, crate::specs::SightParts::matrix_at))]
+#[tactic(auto, using(crate::proofs::Vectors::three, crate::proofs::Vectors::four), unfolding(crate::specs::SightInputs::sight_input, crate::specs::SightParts::vector6_at, crate::specs::SightParts::matrix_at))]
 pub fn sight_input(block: &[u8]) -> SightInput
     ensures { result ≡ sight_input block.now }
 {

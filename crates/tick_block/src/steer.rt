@@ -5,17 +5,17 @@ mod parts; // parts.rt: a sample
 ghost use Rattle.std.specs.Prelude.{◌≡◌};
 ghost use Rattle.tick_block.specs.SteerInputs.{steer_input, finish_input};
 
+use crate::floats::{float_at, floats_at};
 use crate::layout::{
     ACCEL_TO_WHEEL, COSINE, FRESH, FRICTION, INVERSE_INERTIA, NEXT, SINE, TWIST_TO_WHEEL, WHEELS,
 };
 use crate::sight::flag::Flag;
 use crate::sight::parts::matrix_at;
 use crate::steer::parts::sample_at;
-use blocks::floats::{float_at, floats_at};
-use inputs::{FinishInput, SteerInput};
 use linear::rotation::Rotation;
+use tick::inputs::{FinishInput, SteerInput};
 
-#[tactic(auto, using(blocks::proofs::Vectors::four), unfolding(crate::specs::SteerInputs::steer_input))]
+#[tactic(auto, using(crate::proofs::Vectors::four), unfolding(crate::specs::SteerInputs::steer_input))]
 pub fn steer_input(block: &[u8]) -> SteerInput
     ensures { result ≡ steer_input block.now }
 {
@@ -32,7 +32,7 @@ pub fn steer_input(block: &[u8]) -> SteerInput
     }
 }
 
-#[tactic(auto, using(blocks::proofs::Vectors::three), unfolding(crate::specs::SteerInputs::finish_input, crate::specs::SightParts::matrix_at))]
+#[tactic(auto, using(crate::proofs::Vectors::three), unfolding(crate::specs::SteerInputs::finish_input, crate::specs::SightParts::matrix_at))]
 pub fn finish_input(block: &[u8]) -> FinishInput
     ensures { result ≡ finish_input block.now }
 {

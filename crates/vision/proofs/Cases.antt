@@ -9,8 +9,8 @@ use Rattle.ieee754.specs.Hypot.{hypotenuse, hypot_of, outweighs, larger, smaller
 use Rattle.ieee754.specs.Magnitude.{magnitude}
 use Rattle.ieee754.specs.Root.{square_root, root_of, whole_root, root_digits, sticky}
 use Rattle.params.specs.Params.{vision_gate_base_radius_m}
-use Rattle.na.specs.Vector.{zero_float, zeros2, zeros3, zeros6}
-use Rattle.tick_length.specs.TickLength.{seconds_of}
+use Rattle.linear.specs.Vector.{zero_float, zeros2, zeros3, zeros6}
+use Rattle.tick.specs.TickLength.{seconds_of}
 use Rattle.tick.specs.declared.action.GateAction.TheVariants.{Accumulate, SeedComplete, SeedReset, AcceptJump, FirstReject, Reject}
 use Rattle.vision.specs.declared.gate.VisionGateState.{VisionGateState}
 use Rattle.vision.specs.declared.gate.VisionGateState.TheVariants.{Seeding, Tracking}

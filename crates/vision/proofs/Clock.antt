@@ -12,8 +12,8 @@ use lib.Ieee.Exact.{HasValue}
 use lib.Ieee.Order.{le_of_values}
 use lib.Ieee.Positive.{positive, positive_of_value, values_of_le}
 use Rattle.params.specs.Params.{vision_active_timeout_s, vision_clock_start_s}
-use Rattle.na.specs.Vector.{zero_float}
-use Rattle.tick_length.specs.TickLength.{seconds_of}
+use Rattle.linear.specs.Vector.{zero_float}
+use Rattle.tick.specs.TickLength.{seconds_of}
 use Rattle.vision.specs.Vision.{active, clock_after}
 use Rattle.vision.specs.Since.{clock_since}
 use Rattle.vision.proofs.Ticks.{tick_exact, zero_value}

@@ -9,10 +9,10 @@ use lib.IntN.{pos}
 use lib.Ieee.{binary32, le, of_int}
 use Rattle.std.specs.Prelude.{Option, Some}
 use Rattle.params.specs.Params.{vision_clock_start_s}
-use Rattle.na.specs.declared.Vector3f.{Vector3f}
-use Rattle.na.specs.declared.Vector6f.{Vector6f}
-use Rattle.na.specs.Vector.{zero_float}
-use Rattle.tick_length.specs.TickLength.{seconds_of}
+use Rattle.linear.specs.declared.Vector3f.{Vector3f}
+use Rattle.linear.specs.declared.Vector6f.{Vector6f}
+use Rattle.linear.specs.Vector.{zero_float}
+use Rattle.tick.specs.TickLength.{seconds_of}
 use Rattle.vision.specs.declared.gate.VisionGateState.TheVariants.{Tracking}
 use Rattle.vision.specs.declared.Vision.{Vision}
 use Rattle.tick.specs.Outcome.{takes}

@@ -1,4 +1,4 @@
--- Laws that belong to no one function, and document 01's starred cases. Assumes nothing.
+-- Laws and lemmas.
 pub mod Least
 pub mod Ticks
 pub mod Clock

@@ -11,9 +11,9 @@ use lib.Dec.{lit<, ltb}
 use lib.Ieee.{Float, nan, binary32, add, lt, le, eq}
 use Rattle.std.specs.Prelude.{Option, None, Some}
 use Rattle.params.specs.Params.{vision_seed_samples, vision_seed_pos_std_thresh_m, vision_gate_base_radius_m}
-use Rattle.na.specs.declared.Vector3f.{Vector3f}
-use Rattle.na.specs.declared.Vector6f.{Vector6f}
-use Rattle.na.specs.Vector.{zero_float}
+use Rattle.linear.specs.declared.Vector3f.{Vector3f}
+use Rattle.linear.specs.declared.Vector6f.{Vector6f}
+use Rattle.linear.specs.Vector.{zero_float}
 use Rattle.vision.specs.declared.seeding.Seeding.{Seeding}
 use Rattle.vision.specs.declared.gate.VisionGateState.{VisionGateState}
 use Rattle.vision.specs.declared.gate.VisionGateState.TheVariants as Gate

@@ -11,10 +11,10 @@ use lib.Ieee.{Float, binary32, round, mul, of_int, of_bits, lt, le, eq}
 use lib.Ieee.Bits.{is_true}
 use lib.Ieee.Back.{round_whole}
 use Rattle.params.specs.Params.{vision_gate_base_radius_m, vision_gate_expand_rate_m_per_s}
-use Rattle.na.specs.Vector.{zero_float}
-use Rattle.tick_length.specs.TickLength.{seconds_of}
-use Rattle.na.specs.declared.Vector3f.{Vector3f}
-use Rattle.na.specs.declared.Vector6f.{Vector6f}
+use Rattle.linear.specs.Vector.{zero_float}
+use Rattle.tick.specs.TickLength.{seconds_of}
+use Rattle.linear.specs.declared.Vector3f.{Vector3f}
+use Rattle.linear.specs.declared.Vector6f.{Vector6f}
 use Rattle.vision.specs.declared.gate.VisionGateState.TheVariants.{Tracking}
 use Rattle.tick.specs.declared.action.GateAction.TheVariants.{FirstReject, Reject}
 use Rattle.tick.specs.Outcome.{takes}

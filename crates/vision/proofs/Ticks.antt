@@ -10,8 +10,8 @@ use lib.Dec.{lit<, ltb, leb}
 use lib.Pow.{shl_lt}
 use lib.Ieee.{Float, binary32, round, add, of_bits}
 use lib.Ieee.Exact.{HasValue, round_exact}
-use Rattle.tick_length.specs.TickLength.{seconds_of}
-use Rattle.tick_length.proofs.Exact.{seconds_exact}
+use Rattle.tick.specs.TickLength.{seconds_of}
+use Rattle.tick.proofs.TickLengthExact.{seconds_exact}
 use Rattle.vision.specs.Since.{since_taken}
 use Rattle.vision.proofs.Least.{AtLeast, value_least, add_values, add_least}
 

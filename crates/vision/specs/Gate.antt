@@ -3,9 +3,9 @@ use Rattle.std.specs.Prelude.{Bool, cond, ltb, Float, Option, None, Some}
 use Rattle.std.specs.Float.{binary32}
 use Rattle.std.specs.Float.Ieee.{add, sub, mul, lt, le, eq}
 use Rattle.ieee754.specs.Hypot.{hypotenuse}
-use Rattle.na.specs.declared.Vector3f.{Vector3f}
-use Rattle.na.specs.declared.Vector6f.{Vector6f}
-use Rattle.na.specs.Vector.{zero_float}
+use Rattle.linear.specs.declared.Vector3f.{Vector3f}
+use Rattle.linear.specs.declared.Vector6f.{Vector6f}
+use Rattle.linear.specs.Vector.{zero_float}
 use Rattle.params.specs.Params.{vision_seed_samples, vision_gate_base_radius_m, vision_gate_expand_rate_m_per_s}
 use Rattle.vision.specs.declared.seeding.Seeding.{Seeding}
 use Rattle.vision.specs.declared.gate.VisionGateState.{VisionGateState}

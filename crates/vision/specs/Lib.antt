@@ -1,4 +1,4 @@
--- What the contracts of `vision` cite: document 01, 'Gate'. Definitions only. Assumes nothing.
+-- Definitions that the contracts of `vision` cite.
 pub mod Vision
 pub mod Since
 pub mod Seeding

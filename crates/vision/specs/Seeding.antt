@@ -3,8 +3,8 @@ use Rattle.std.specs.Prelude.{◌+◌, ◌%◌, ◌^◌, Bool, ◌&&◌, pos, Fl
 use Rattle.std.specs.Float.{binary32}
 use Rattle.std.specs.Float.Ieee.{of_int, add, sub, mul, div, lt}
 use Rattle.ieee754.specs.Root.{square_root}
-use Rattle.na.specs.declared.Vector3f.{Vector3f}
-use Rattle.na.specs.Vector.{zeros2}
+use Rattle.linear.specs.declared.Vector3f.{Vector3f}
+use Rattle.linear.specs.Vector.{zeros2}
 use Rattle.params.specs.Params.{vision_seed_pos_std_thresh_m}
 use Rattle.vision.specs.declared.seeding.Seeding.{Seeding}
 

@@ -2,7 +2,7 @@
 use Rattle.std.specs.Prelude.{ℕ, zero, suc, false, Float}
 use Rattle.std.specs.Float.{binary32}
 use Rattle.std.specs.Float.Ieee.{add}
-use Rattle.na.specs.Vector.{zero_float}
+use Rattle.linear.specs.Vector.{zero_float}
 use Rattle.vision.specs.Vision.{clock_after}
 
 -- t, which a taken sighting set to 0.0: the sum of m tick lengths, each step rounded to binary32

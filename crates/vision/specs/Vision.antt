@@ -2,9 +2,9 @@
 use Rattle.std.specs.Prelude.{Bool, cond, Float, Option}
 use Rattle.std.specs.Float.{binary32}
 use Rattle.std.specs.Float.Ieee.{add, le}
-use Rattle.na.specs.declared.Vector3f.{Vector3f}
-use Rattle.na.specs.declared.Vector6f.{Vector6f}
-use Rattle.na.specs.Vector.{zero_float}
+use Rattle.linear.specs.declared.Vector3f.{Vector3f}
+use Rattle.linear.specs.declared.Vector6f.{Vector6f}
+use Rattle.linear.specs.Vector.{zero_float}
 use Rattle.params.specs.Params.{vision_active_timeout_s, vision_clock_start_s}
 use Rattle.vision.specs.declared.gate.VisionGateState.TheVariants as Gate
 use Rattle.vision.specs.declared.Vision.{Vision}

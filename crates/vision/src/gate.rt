@@ -5,7 +5,7 @@ ghost use Rattle.vision.specs.Gate.{seeding_judged, tracking_judged, judged};
 
 use crate::seeding::Seeding;
 use ieee754::hypot::hypot;
-use na::{Vector3f, Vector6f};
+use linear::{Vector3f, Vector6f};
 use params::{VISION_GATE_BASE_RADIUS_M, VISION_GATE_EXPAND_RATE_M_PER_S, VISION_SEED_SAMPLES};
 use tick::action::GateAction;
 

@@ -9,7 +9,7 @@ ghost use Rattle.vision.specs.Vision.{clock_after, active, new_vision, vision_af
 
 use crate::gate::{Judgement, VisionGateState};
 use crate::seeding::Seeding;
-use na::{Vector3f, Vector6f};
+use linear::{Vector3f, Vector6f};
 use params::{VISION_ACTIVE_TIMEOUT_S, VISION_CLOCK_START_S};
 use tick::action::GateAction;
 

@@ -4,7 +4,7 @@ ghost use Rattle.std.specs.Prelude.{◌≡◌};
 ghost use Rattle.vision.specs.Seeding.{fresh_seeding, gathered, deviation, steady};
 
 use ieee754::root::sqrt;
-use na::{Vector2f, Vector3f, ZEROS_2};
+use linear::{Vector2f, Vector3f, ZEROS_2};
 use params::VISION_SEED_POS_STD_THRESH_M;
 
 // The sightings of a seeding: how many, the sums of their places and of the squares.
@@ -26,7 +26,7 @@ fn deviation_of(sum: f32, sq_sum: f32, nf: f32) -> f32
 
 impl Seeding {
     // A seeding that has seen nothing, the Rust's default.
-    #[tactic(auto, unfolding(crate::specs::Seeding::fresh_seeding, na::specs::Vector::zeros2))]
+    #[tactic(auto, unfolding(crate::specs::Seeding::fresh_seeding, linear::specs::Vector::zeros2))]
     pub fn fresh() -> Seeding
         ensures { result ≡ fresh_seeding }
     {

@@ -3,9 +3,9 @@ use mathlib.Core.Path.{◌≡◌, refl}
 use mathlib.Core.Bool.{Bool, true, false}
 use mathlib.Core.List.{[], ◌∷◌}
 use lib.Ieee.{Float, nan, inf, fin, binary32, add, mul, neg, of_bits}
-use Rattle.na.specs.declared.Vector3f.{Vector3f}
+use Rattle.linear.specs.declared.Vector3f.{Vector3f}
 use Rattle.linear.specs.declared.rotation.Rotation.{Rotation}
-use Rattle.na.specs.Vector.{zero_float, one_float, vector3_of, dot_of, add_products}
+use Rattle.linear.specs.Vector.{zero_float, one_float, vector3_of, dot_of, add_products}
 use Rattle.linear.specs.Matrix.{product_of}
 use Rattle.linear.specs.Rotation.{z_rotation, to_global, to_local}
 

@@ -1,10 +1,10 @@
 // The command words of a block.
 ghost use Rattle.std.specs.Prelude.{◌≡◌};
-ghost use Rattle.tick_block.specs.Command.{first_words, command_words};
+ghost use Rattle.tick_block.specs.CommandWords.{first_words, command_words};
 
+use crate::floats::float_at;
 use crate::layout::COMMAND;
-use blocks::floats::float_at;
-use cmd::CommandWords;
+use tick::command::CommandWords;
 
 // The first n of them; the others are not read: they are 0.0.
 fn first_words(block: &[u8], n: usize) -> CommandWords
@@ -21,7 +21,7 @@ fn first_words(block: &[u8], n: usize) -> CommandWords
 
 // Those that the mode uses.
 // The mode is a number, as the scope paper (document 01) has it: words of one that is no mode are 0.0.
-#[tactic(auto, unfolding(crate::specs::Command::command_words))]
+#[tactic(auto, unfolding(crate::specs::CommandWords::command_words))]
 pub(crate) fn command_words(block: &[u8], mode: u32) -> CommandWords
     ensures { result ≡ command_words block.now mode }
 {

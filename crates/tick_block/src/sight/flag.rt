@@ -2,8 +2,8 @@
 ghost use Rattle.std.specs.Prelude.{◌≡◌};
 ghost use Rattle.tick_block.specs.Flags.{flag_at, bit_of};
 
-use blocks::check::FLAGS;
-use blocks::words::word_at;
+use crate::check::FLAGS;
+use crate::words::word_at;
 
 // In the order of their bits, from bit 0 up.
 #[derive(Clone, Copy)]

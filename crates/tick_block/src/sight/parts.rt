@@ -2,7 +2,7 @@
 ghost use Rattle.std.specs.Prelude.{◌≡◌};
 ghost use Rattle.tick_block.specs.SightParts.{matrix_of_rows};
 
-use blocks::floats::floats_at;
+use crate::floats::floats_at;
 use linear::Matrix;
 
 // The matrix whose rows begin at these words.

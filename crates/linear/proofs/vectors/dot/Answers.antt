@@ -3,7 +3,7 @@ use Rattle.std.proofs.Common.{rules, tests, ◌∙◌, ap}
 use Rattle.std.specs.Option.{unwrap_or}
 use Rattle.std.proofs.lemmas.Iterator.{YieldsList-from_slice, YieldsList-from_map, YieldsList-from_zip}
 use lib.Ieee.{binary32, add}
-use Rattle.na.specs.Vector.{zero_float}
+use Rattle.linear.specs.Vector.{zero_float}
 use Rattle.linear.proofs.Products.{product, reduced, dot_reduced}
 use Rattle.linear.proofs.vectors.dot.Goals as goal
 

@@ -1,6 +1,6 @@
 -- Every row is multiplied.
 use Rattle.std.proofs.Common.{rules}
-use Rattle.na.proofs.Arrays.{filled_from}
+use Rattle.linear.proofs.Arrays.{filled_from}
 use Rattle.linear.specs.Matrix.{product_of}
 use Rattle.linear.proofs.matrix.Matrix.mul.Goals as goal
 

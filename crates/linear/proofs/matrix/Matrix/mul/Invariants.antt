@@ -1,6 +1,6 @@
 -- The rows that are passed are multiplied.
 use Rattle.std.proofs.Common.{◌≡◌, ℕ, ◌<◌, [], length, get_or}
-use Rattle.na.specs.Vector.{zero_float, dot_of}
+use Rattle.linear.specs.Vector.{zero_float, dot_of}
 use Rattle.linear.proofs.matrix.Matrix.mul.Given as goal
 
 abbrev pub invariant-loop-i : goal.invariant-loop-i

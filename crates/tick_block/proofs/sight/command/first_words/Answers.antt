@@ -1,6 +1,6 @@
 -- Every index is passed.
-use Rattle.na.proofs.Arrays.{filled}
-use Rattle.tick_block.specs.Command.{first_words}
+use Rattle.linear.proofs.Arrays.{filled}
+use Rattle.tick_block.specs.CommandWords.{first_words}
 use Rattle.tick_block.proofs.sight.command.first_words.Goals as goal
 
 pub returns : goal.returns

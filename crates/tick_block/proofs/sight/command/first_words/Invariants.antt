@@ -1,7 +1,7 @@
 -- Those that are read, and those that are still 0.0.
 use Rattle.std.proofs.Common.{◌≡◌, ℕ, ◌<◌, ◌≤◌, length, get_or}
-use Rattle.na.specs.Vector.{zero_float}
-use Rattle.tick_block.specs.Command.{word_below}
+use Rattle.linear.specs.Vector.{zero_float}
+use Rattle.tick_block.specs.CommandWords.{word_below}
 use Rattle.tick_block.proofs.sight.command.first_words.Given as goal
 
 abbrev pub invariant-loop-i : goal.invariant-loop-i

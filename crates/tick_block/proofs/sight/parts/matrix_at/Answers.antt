@@ -1,6 +1,6 @@
 -- Every row is written.
 use Rattle.std.proofs.Common.{rules, ap}
-use Rattle.na.proofs.Arrays.{filled_from}
+use Rattle.linear.proofs.Arrays.{filled_from}
 use Rattle.linear.specs.declared.matrix.Matrix.{Matrix}
 use Rattle.tick_block.specs.SightParts.{matrix_of_rows}
 use Rattle.tick_block.proofs.sight.parts.matrix_at.Goals as goal

@@ -1,5 +1,5 @@
 use Rattle.std.proofs.Common.{◌≡◌, ℕ, ◌<◌, [], length, get_or}
-use Rattle.blocks.specs.Floats.{floats_at}
+use Rattle.tick_block.specs.Floats.{floats_at}
 use Rattle.tick_block.proofs.sight.parts.matrix_at.Given as goal
 
 -- those that are read

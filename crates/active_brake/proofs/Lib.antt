@@ -1,3 +1,0 @@
--- Document 01's starred cases. Assumes nothing.
-pub mod Cases
-pub mod WheelCases

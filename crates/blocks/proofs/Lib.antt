@@ -1,2 +1,0 @@
--- Laws that belong to no one function. Assumes nothing.
-pub mod Vectors

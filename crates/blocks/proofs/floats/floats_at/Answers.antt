@@ -1,8 +1,0 @@
--- Every index is written.
-use Rattle.na.proofs.Arrays.{filled}
-use Rattle.blocks.specs.Floats.{floats_at}
-use Rattle.blocks.proofs.floats.floats_at.Goals as goal
-
-pub returns : goal.returns
-unfolding floats_at
-returns g c = filled _ c.loop-i.invariant.0 c.loop-i.invariant.1 c.loop-i-test.false

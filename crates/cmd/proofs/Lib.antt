@@ -1,2 +1,0 @@
--- Laws of commands. Assumes nothing.
-pub mod Laws

@@ -1,0 +1,8 @@
+-- Laws and lemmas.
+pub mod TrackingCases
+pub mod RecoveryLaws
+pub mod ClampedLaws
+pub mod ClampedCases
+pub mod DecisionLaws
+pub mod EqualityLaws
+pub mod PoseLaws

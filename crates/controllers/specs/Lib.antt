@@ -1,0 +1,9 @@
+-- Definitions that the contracts of `controllers` cite.
+pub mod Axis
+pub mod Axes
+pub mod PidAxes
+pub mod Brake
+pub mod Wheel
+pub mod FirstOrderLag
+pub mod LagAxis
+pub mod EncoderLag

@@ -1,7 +1,0 @@
--- cmd is what the turns so far make of `desired`. Assumes nothing.
-use Rattle.std.proofs.Common.{◌≡◌}
-use Rattle.first_order_lag.specs.Axis.{iterated, lag_turn}
-use Rattle.first_order_lag.proofs.axis.iterate.Given as goal
-
-abbrev pub invariant-loop : goal.invariant-loop
-invariant-loop l = l.cmd ≡ iterated l.counter (lag_turn l.one_minus_a l.target) l.desired

@@ -1,3 +1,0 @@
--- What the contracts of `float_vectors` cite. Assumes nothing.
-pub mod Answer
-pub mod Record

@@ -1,0 +1,3 @@
+-- Laws and lemmas.
+pub mod Digits
+pub mod Line

@@ -1,2 +1,0 @@
--- The pass theorem of batches. Assumes nothing.
-pub mod BatchHolds

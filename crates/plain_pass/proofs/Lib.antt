@@ -1,2 +1,0 @@
--- The pass theorem. Assumes nothing.
-pub mod EveryPass

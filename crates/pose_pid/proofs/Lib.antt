@@ -1,2 +1,0 @@
--- Laws of the pose's PID. Assumes nothing.
-pub mod Laws

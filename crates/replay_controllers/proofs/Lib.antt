@@ -1,0 +1,3 @@
+-- Laws and lemmas.
+mod Filled
+mod Loops

@@ -1,0 +1,3 @@
+-- Definitions that the contracts of `replay_floats` cite.
+pub mod Answer
+pub mod Record

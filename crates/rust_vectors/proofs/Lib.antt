@@ -1,3 +1,0 @@
--- What the loops over axes keep. Assumes nothing.
-mod Filled
-mod Loops

@@ -1,2 +1,0 @@
--- What the contracts of `tick_length` cite: document 01, 'Records' and 'When a call is turned away'. Definitions only. Assumes nothing.
-pub mod TickLength

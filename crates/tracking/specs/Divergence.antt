@@ -1,9 +1,0 @@
--- Normal or recovering. Assumes nothing.
-use Rattle.std.specs.Prelude.{Bool, true, false}
-use Rattle.tracking.specs.declared.divergence.TrackingDivergenceState.{TrackingDivergenceState}
-use Rattle.tracking.specs.declared.divergence.TrackingDivergenceState.TheVariants.{Normal, Recovering}
-
--- 'Steer': recovering, a term of document 01, or Normal
-abbrev pub is_recovering : TrackingDivergenceState → Bool
-is_recovering Normal = false
-is_recovering Recovering = true

@@ -1,3 +1,0 @@
--- Laws that belong to no one function. Assumes nothing.
-pub mod Digits
-pub mod Line

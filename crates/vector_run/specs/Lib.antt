@@ -1,3 +1,0 @@
--- What the contracts of `vector_run` cite. Definitions only. Assumes nothing.
-pub mod Line
-pub mod Tally
