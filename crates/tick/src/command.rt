@@ -89,7 +89,8 @@ impl From<CommandWords> for HeadingLine {
 }
 
 impl ManeuverCommand {
-    /// The command of a mode number, or `Refusal::Mode` where it is none. Words that its mode does not use are not read.
+    /// The command of a mode number, or `Refusal::Mode` where it is none. Words that its mode does not use are not
+    /// read.
     #[tactic(auto, unfolding(crate::specs::Command::command_from))]
     pub fn from_words(mode: u32, w: CommandWords) -> Result<ManeuverCommand, Refusal>
         ensures { (result ≡ command_from mode w) × (number_of result ≡ refusal_of mode) }
