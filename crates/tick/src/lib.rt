@@ -3,7 +3,9 @@
 
 pub mod sample; // sample.rt: A sample of a trajectory
 pub mod refusal; // refusal.rt: Document 01, 'When a call is turned away': why a call or a block is refused, in the order of its
+pub mod tick_length_laws; // tick_length_laws.rt: what is proved of tick lengths
 pub mod tick_length; // tick_length.rt: The tick length, a term of document 01: k/4096 s, with k from 1 to 64
+pub mod command_laws; // command_laws.rt: what is proved of commands and their words
 pub mod command; // command.rt: Commands and their words
 pub mod inputs; // inputs.rt: What the tick's four calls take. Types alone, so that who reads them from a block needs no controller
 pub mod action; // action.rt: the eight outcomes, and what document 01 says of each

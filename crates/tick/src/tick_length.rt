@@ -1,4 +1,5 @@
 // The tick length, a term of document 01: k/4096 s, with k from 1 to 64.
+
 ghost use Rattle.std.specs.Prelude.{◌≡◌};
 ghost use Rattle.tick.specs.Refusal.{number_of};
 ghost use Rattle.tick.specs.TickLength.{tick_length_of, refusal_of, seconds_of, micros_of};
