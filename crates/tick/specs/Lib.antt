@@ -2,8 +2,10 @@
 pub mod Refusal
 pub mod TickLength
 pub mod TickLengthLaws
-pub mod Counts
-pub mod Outputs
-pub mod Outcome
+pub mod Start
+pub mod Mode
 pub mod Command
 pub mod CommandLaws
+pub mod Outcome
+pub mod Tally
+pub mod Outputs
