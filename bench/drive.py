@@ -13,7 +13,8 @@ import os, shutil, subprocess, sys, tempfile, time
 from pathlib import Path
 
 TOP = Path(__file__).resolve().parent.parent
-sys.path.insert(0, str(TOP / "oracle"))
+sys.path.insert(0, str(TOP / "tools"))
+from build import build
 from unproved import Kit
 
 TICKS = 400_000
@@ -100,9 +101,7 @@ def variant(kit, room, name, edit):
         source = (crates / file).read_text()
         assert source.count(old) == 1, f"{file} has changed"
         (crates / file).write_text(source.replace(old, new) + more)
-    said = kit.build("drive", crates, room / name, checks=False)
-    if said:
-        sys.exit(f"{name} does not compile: {said}")
+    kit.build("drive", crates, room / name, checks=False)
     return [room / name]
 
 
@@ -117,12 +116,10 @@ def main():
     target = Path(os.environ.get("CARGO_TARGET_DIR", TOP / "oracle/target")) / "bench"
     build = ["cargo", "build", "--quiet", "--release", "--offline", "--target-dir", target]
     subprocess.run(build + ["--manifest-path", TOP / "oracle/Cargo.toml"], check=True)
-    nothing = {"stdin": subprocess.DEVNULL, "stdout": subprocess.DEVNULL}
-    subprocess.run(["rt", "run"], cwd=TOP / "crates/drive", check=True, **nothing)
     room = Path(tempfile.mkdtemp())
     try:
-        kit = Kit(room, TOP)
-        drive = [TOP / "crates/drive/out/drive"]
+        kit = Kit(room)
+        drive = [build("drive")]
         ticks = [target / "release/ticks"]
         for count in (10**4, 10**5, TICKS, 10**6):
             with open(room / str(count), "wb") as out:

@@ -15,8 +15,8 @@ first_seed=${SEED:-1000}
 
 . "$here/programs.sh"
 build_firmware
-build_proved drive
-build_proved tick_words
+drive=$("$top/tools/build.py" drive)
+tick_words=$("$top/tools/build.py" tick_words)
 
 room=$(mktemp -d)
 trap 'rm -rf "$room"' EXIT
@@ -31,9 +31,9 @@ draw() { # SEED TICKS K REFUSAL
 # Compares both programs with the firmware on the file pass.
 hold() { # WHAT
     "$rust/ticks" <"$room/pass" >"$room/lines"
-    proved drive <"$room/pass" >"$room/drive"
+    "$drive" <"$room/pass" >"$room/drive"
     "$rust/ticks" --full --passes <"$room/pass" >"$room/words"
-    proved tick_words <"$room/pass" >"$room/tick_words"
+    "$tick_words" <"$room/pass" >"$room/tick_words"
     for pair in lines:drive words:tick_words; do
         if ! cmp "$room/${pair%:*}" "$room/${pair#*:}"; then
             echo "$1: ${pair#*:} differs from the firmware"

@@ -12,10 +12,11 @@ with 1 if a mistake goes unseen.
 import os, shutil, subprocess, sys, tempfile
 from pathlib import Path
 
-from unproved import Kit
-
 HERE = Path(__file__).resolve().parent
 TOP = HERE.parent
+sys.path.insert(0, str(TOP / "tools"))
+from unproved import Kit, Unbuilt
+
 # What only the lines show, beside the crates that drive uses and tick_words doesn't.
 TEXT_FILES = {"tick/src/count.rt"}
 REFUSALS = [1, 4, 5, 6, 7, 8, 9, 10]
@@ -98,9 +99,10 @@ def planted(crates, name, edits):
 
 def tried(kit, room, program, name, sample, stored):
     """How many passes see the mistake, where the first does, and how many stored ones."""
-    said = kit.build(program, room / "crates", room / "program")
-    if said:
-        sys.exit(f"{name}: does not compile\n" + "\n".join(said))
+    try:
+        kit.build(program, room / "crates", room / "program")
+    except Unbuilt as it:
+        sys.exit(f"{name}: does not compile\n" + "\n".join(str(it).strip().splitlines()[-3:]))
     count, first = seen_by(kit, room / "program", sample, program == "drive")
     gate = None if program == "drive" else seen_by(kit, room / "program", stored, False)[0]
     print(f"{name} ({program}): {count} of {len(sample)} passes; {first}; stored {gate}", flush=True)
@@ -115,7 +117,7 @@ def main():
     room = Path(tempfile.mkdtemp())
     rows = []
     try:
-        kit = Kit(room, TOP)
+        kit = Kit(room)
         sample = firmware(room)
         words = TOP / "crates/tick_words"
         stored = [("stored", words / "stdin", (words / "stdout").read_bytes(), b"")]
