@@ -6,7 +6,7 @@ WORDS are what NAME takes, no arguments where it begins with <, and TEXT says wh
 """
 import os, signal, sys
 
-from build import Failed, build, say
+from build import Failed, build, current, say
 
 USAGE = """usage: ./{name} [--unproved] {words}
 
@@ -32,6 +32,8 @@ def main():
         return 2
     given = flags + given[given.index("--") + 1 :] if "--" in given else flags
     signal.signal(signal.SIGTERM, lambda *_: sys.exit(143))
+    if proved and not current(name, "proved")[1]:
+        say(f"{name}: to be proved first, which takes minutes; ./{name} --unproved starts in half a minute")
     try:
         program = build(name, proved)
     except Failed as it:
