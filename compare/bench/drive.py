@@ -4,12 +4,13 @@
     compare/bench/drive.py FIRMWARE_SRC [ROUNDS]
 
 - the ratio: 400,000 blocks, firmware and drive by turns, the best of ROUNDS (15) each;
+- growth: drive's time for a tick at 10^4, 10^5 and 10^6 ticks;
+- drive's instructions for a tick, where valgrind is there;
 - where drive's time goes, by two variants of it that are built without proof: one puts a byte for
   each tick in the place of its line (what is saved is the text), one leaves the four calls out and
-  prints the block's own wheels (what is saved is the tick); the rest is reading and check;
-- growth: drive's time for a tick at 10^4, 10^5 and 10^6 ticks.
+  prints the block's own wheels (what is saved is the tick); the rest is reading and check.
 """
-import os, shutil, subprocess, sys, tempfile, time
+import os, re, shutil, subprocess, sys, tempfile, time
 from pathlib import Path
 
 COMPARE = Path(__file__).resolve().parent.parent
@@ -93,6 +94,13 @@ def best(commands, blocks, rounds):
     return [tuple(map(min, zip(*column))) for column in zip(*times)]
 
 
+def instructions(command, blocks):
+    counted = ["valgrind", "--tool=callgrind", "--callgrind-out-file=/dev/null", *command]
+    with open(blocks, "rb") as given:
+        run = subprocess.run(counted, stdin=given, stdout=subprocess.DEVNULL, stderr=subprocess.PIPE, text=True, check=True)
+    return int(re.search(r"Collected : (\d+)", run.stderr).group(1))
+
+
 def variant(kit, room, name, edit):
     crates = room / "crates"
     shutil.rmtree(crates, ignore_errors=True)
@@ -115,8 +123,8 @@ def main():
     os.environ["CARGO_PROFILE_RELEASE_DEBUG_ASSERTIONS"] = "false"
     os.environ["CARGO_PROFILE_RELEASE_OVERFLOW_CHECKS"] = "false"
     target = Path(os.environ.get("CARGO_TARGET_DIR", COMPARE / "target")) / "bench"
-    build = ["cargo", "build", "--quiet", "--release", "--offline", "--target-dir", target]
-    subprocess.run(build + ["--manifest-path", COMPARE / "oracle/Cargo.toml"], check=True)
+    cargo = ["cargo", "build", "--quiet", "--release", "--offline", "--target-dir", target]
+    subprocess.run(cargo + ["--manifest-path", COMPARE / "oracle/Cargo.toml"], check=True)
     room = Path(tempfile.mkdtemp())
     try:
         kit = Kit(room)
@@ -133,14 +141,16 @@ def main():
         for what, i in (("clock", 0), ("processor", 1)):
             print(f"  {what}: firmware {firmware[i]:.3f} s, drive {ours[i]:.3f} s, ratio {firmware[i] / ours[i]:.2f}")
 
+        for count in (10**4, 10**5, 10**6):
+            ((clock, cpu),) = best([drive], room / str(count), rounds)
+            print(f"{count} ticks: {clock * 1e9 / count:.0f} ns for a tick by the clock, {cpu * 1e9 / count:.0f} of processor")
+        if shutil.which("valgrind"):
+            print(f"{instructions(drive, room / str(10**4)) / 10**4:.0f} instructions for a tick, over 10000 ticks (callgrind)")
+
         variants = [variant(kit, room, *v) for v in (("whole", None), ("no_text", NO_TEXT), ("no_tick", NO_TICK))]
         whole, no_text, no_tick = (cpu * 1e9 / TICKS for _, cpu in best(variants, blocks, rounds))
         text, tick = whole - no_text, whole - no_tick
         print(f"ns of processor for a tick: {whole:.0f}; reading and check {whole - text - tick:.0f}, tick {tick:.0f}, text {text:.0f}")
-
-        for count in (10**4, 10**5, 10**6):
-            ((clock, cpu),) = best([drive], room / str(count), rounds)
-            print(f"{count} ticks: {clock * 1e9 / count:.0f} ns for a tick by the clock, {cpu * 1e9 / count:.0f} of processor")
     finally:
         shutil.rmtree(room)
 

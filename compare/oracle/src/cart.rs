@@ -140,7 +140,7 @@ impl Cart {
         format!("{} {letter} {vision} {recovery} {rest}", self.ticks - 1)
     }
 
-    /// All that a tick answers and leaves, as 96 words; the README lists them.
+    /// All that a tick answers and leaves, as 96 words; FORMATS.md lists them.
     pub fn record(&self, answer: &Answer) -> [u32; 96] {
         let mut out = self.state();
         let calls = &answer.calls;

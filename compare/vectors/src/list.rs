@@ -95,7 +95,10 @@ impl List {
             bytes.extend(w.to_le_bytes());
             bytes.extend(answer(w).to_le_bytes());
         }
-        let folder = concat!(env!("CARGO_MANIFEST_DIR"), "/../../crates/float_vectors/data");
+        let folder = concat!(
+            env!("CARGO_MANIFEST_DIR"),
+            "/../../crates/float_vectors/data"
+        );
         std::fs::create_dir_all(folder).unwrap();
         std::fs::write(format!("{folder}/{}", self.name), bytes).unwrap();
         println!("{} {}", self.name, self.words.len());
