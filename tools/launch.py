@@ -12,10 +12,12 @@ USAGE = """usage: ./{name} [--unproved] {words}
 
 {text}
 
-The first run proves the program and each library that it needs, which takes minutes, and builds it in
-out/. Later runs start at once, until a source changes. With --unproved it is built without proof, in
-about half a minute: nothing is proved then, and the program stops where a check fails that a proof
-would have made needless. A program that was proved is not used in its place."""
+The first run proves the program and each library that it needs, which takes minutes. Later runs start
+at once, until a source changes. The program lies in out/; what the proofs leave in crates/*/out serves
+the next ones alone.
+
+With --unproved the program is built without proof, in about half a minute: nothing is proved then, and
+it stops where a check fails that a proof would have made needless."""
 
 
 def main():
