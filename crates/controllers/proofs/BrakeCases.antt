@@ -1,4 +1,4 @@
--- Document 01's starred cases of the brake's k, by computation. Assumes nothing.
+-- Worked values of the brake's k (docs/RULES.md, 'Worked values').
 use mathlib.Core.Path.{◌≡◌, refl}
 use Rattle.std.specs.Prelude.{Ok, Err}
 use Rattle.tick.specs.declared.refusal.Refusal.TheVariants as Why

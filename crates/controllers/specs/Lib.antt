@@ -3,7 +3,6 @@ pub mod Axis
 pub mod Axes
 pub mod PidAxes
 pub mod Brake
-pub mod Wheel
 pub mod FirstOrderLag
 pub mod LagAxis
 pub mod EncoderLag
