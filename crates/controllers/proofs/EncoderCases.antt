@@ -1,4 +1,4 @@
--- Document 01's starred cases of the encoder lag, and the steps at further tick lengths, each by computation. Assumes nothing.
+-- Worked values of the encoder lag (docs/RULES.md, 'Worked values'), and the steps at further tick lengths, each by computation.
 use Rattle.std.proofs.Common.{◌≡◌, [], ◌∷◌, map, refl}
 use lib.Ieee.{of_int, of_bits, to_unsigned, add, mul, div}
 use Rattle.tick.specs.TickLength.{tick_length_of, micros_of}

@@ -7,7 +7,7 @@ use Rattle.controllers.specs.declared.pid.AxisMemory.{AxisMemory}
 use Rattle.controllers.specs.declared.pid.PidMemory.{PidMemory}
 use Rattle.controllers.specs.Axis.{AxisAnswer, one_calculated, one_with_derivative}
 use Rattle.controllers.specs.Axes.{Ask, calculate, calculate_with_derivative, answer, answers, asks, asks_with_derivative}
-use Rattle.controllers.specs.PidAxes.{PidAnswer, joined, calculated, calculated_with_derivative}
+use Rattle.controllers.specs.PidAxes.{joined, calculated, calculated_with_derivative}
 use Rattle.controllers.proofs.Mapped.{mapped}
 
 answer_at : (parts : List Ask) (cs : List PidSettings) (ms : List AxisMemory) (i : ℕ) (part : Ask) (c : PidSettings) (m : AxisMemory) (d : AxisAnswer)

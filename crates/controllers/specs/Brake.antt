@@ -26,16 +26,16 @@ pub record BrakeAnswer : Type 0 where
 
 -- a brake that remembers nothing, for the tick length k
 unfoldable pub new_brake : ℕ → ActiveBrakeController
-new_brake k = record { pid = new_memory; tick_length = record { k = k } }
+new_brake k = record { pid = new_memory; tick_length = k }
 
 -- the answer to a k: a brake where k is a tick length's
 unfoldable pub brake_of : ℕ → Result ActiveBrakeController Refusal
-brake_of k = result_map_both (λ t. new_brake t.k) (λ r. r) (tick_length_of k)
+brake_of k = result_map_both new_brake (λ r. r) (tick_length_of k)
 
 -- the setpoint is rest, the process variable the measured speed
 unfoldable pub computed : ActiveBrakeController → Vector4f → BrakeAnswer
 computed b speeds =
-    let a = calculated (replicate 4 wheel_settings) b.pid (replicate 4 zero_float) (entries4 speeds) (seconds_of b.tick_length.k) in
+    let a = calculated (replicate 4 wheel_settings) b.pid (replicate 4 zero_float) (entries4 speeds) (seconds_of b.tick_length) in
     record { currents = vector4_of a.output; controller = record b { pid = a.memory } }
 
 unfoldable pub reset_brake : ActiveBrakeController → ActiveBrakeController

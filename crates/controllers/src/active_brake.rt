@@ -34,7 +34,7 @@ pub struct ActiveBrakeController {
 impl ActiveBrakeController {
     #[tactic(auto, unfolding(crate::specs::Brake::new_brake))]
     fn of(tick_length: TickLength) -> ActiveBrakeController
-        ensures { result ≡ new_brake tick_length.k }
+        ensures { result ≡ new_brake tick_length }
     {
         ActiveBrakeController {
             pid: PidMemory::new(),
@@ -63,9 +63,9 @@ impl ActiveBrakeController {
         ensures { let a = computed self.old wheel_vel_meas in (result ≡ a.currents) × (self.new ≡ a.controller) }
     {
         let dt_s = self.tick_length.seconds();
-        self.pid
-            .calculate(&[WHEEL; 4], [0.0; 4], wheel_vel_meas.into(), dt_s)
-            .into()
+        let speeds = wheel_vel_meas.into();
+        let currents = self.pid.calculate(&[WHEEL; 4], [0.0; 4], speeds, dt_s);
+        currents.into()
     }
 
     /// Forgets the errors.

@@ -1,11 +1,11 @@
-// `FirstOrderLag` of lib-stm32's model/mod.rs on one axis.
+//! `FirstOrderLag` of lib-stm32's model/mod.rs on one axis.
 
 ghost use Rattle.std.specs.Prelude.{◌≡◌};
 ghost use Rattle.controllers.specs.LagAxis.{one_over_t, axis_step, axis_invert, lag_turn, iterated};
 
 use ieee754::bits::abs;
 
-// An axis has a gain, a slope and a state of its own; the rest is every axis's.
+/// An axis has a gain, a slope and a state of its own; the rest is every axis's.
 #[derive(Clone, Copy)]
 pub struct Axis {
     pub k: f32,
@@ -38,7 +38,7 @@ impl Axis {
         1.0 / t_eff
     }
 
-    // The state after one timestep at an input.
+    /// The state after one timestep at an input.
     #[tactic(auto, unfolding(crate::specs::LagAxis::axis_step))]
     pub fn step(self, input: f32) -> f32
         ensures { result ≡ axis_step self input }
@@ -47,7 +47,7 @@ impl Axis {
         self.state + one_over_t * self.dt * (self.k * input - self.state)
     }
 
-    // The input that is to bring the state to `desired`.
+    /// The input that is to bring the state to `desired`.
     #[tactic(auto, unfolding(crate::specs::LagAxis::axis_invert))]
     pub fn invert(self, desired: f32) -> f32
         ensures { result ≡ axis_invert self desired }

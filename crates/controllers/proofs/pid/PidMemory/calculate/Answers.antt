@@ -1,5 +1,5 @@
 -- Every entry is an axis's answer.
-use Rattle.std.proofs.Common.{ap, ◌≡◌, ◌<◌, ◌≤◌, ℕ, arith}
+use Rattle.std.proofs.Common.{ap, ◌≤◌, arith}
 use Rattle.controllers.proofs.Entries.{calculated_is}
 use Rattle.controllers.proofs.pid.PidMemory.calculate.Goals as goal
 
