@@ -1,5 +1,5 @@
 //! `FirstOrderLag` of lib-stm32's model/mod.rs over two axes, and the one of the encoders.
-pub mod axis; // axis.rt: the lag on one axis
+mod axis; // axis.rt: the lag on one axis
 pub mod encoder; // encoder.rt: the encoder lag of a tick length
 
 ghost use Rattle.std.specs.Prelude.{◌≡◌, [], ◌∷◌};

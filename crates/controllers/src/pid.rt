@@ -145,13 +145,14 @@ impl<const N: usize> PidMemory<N> {
         let mut output = [0.0; N];
         for i in 0..N {
             let mut axis = self.axes[i];
-            output[i] = axis.calculate_with_derivative(
+            let out = axis.calculate_with_derivative(
                 &settings[i],
                 setpoint[i],
                 process_variable[i],
                 derivative[i],
                 dt_s,
             );
+            output[i] = out;
             self.axes[i] = axis;
         }
         output

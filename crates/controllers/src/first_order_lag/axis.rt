@@ -5,15 +5,15 @@ ghost use Rattle.controllers.specs.LagAxis.{one_over_t, axis_step, axis_invert, 
 
 use ieee754::bits::abs;
 
-/// An axis has a gain, a slope and a state of its own; the rest is every axis's.
+// An axis has a gain, a slope and a state of its own; the rest is every axis's.
 #[derive(Clone, Copy)]
-pub struct Axis {
-    pub k: f32,
-    pub t_slope: f32,
-    pub t_min: f32,
-    pub dt: f32,
-    pub n_steps: usize,
-    pub state: f32,
+pub(crate) struct Axis {
+    pub(crate) k: f32,
+    pub(crate) t_slope: f32,
+    pub(crate) t_min: f32,
+    pub(crate) dt: f32,
+    pub(crate) n_steps: usize,
+    pub(crate) state: f32,
 }
 
 // The loop of `invert`: n times cmd = one_minus_a * cmd + target.
@@ -38,18 +38,18 @@ impl Axis {
         1.0 / t_eff
     }
 
-    /// The state after one timestep at an input.
+    // The state after one timestep at an input.
     #[tactic(auto, unfolding(crate::specs::LagAxis::axis_step))]
-    pub fn step(self, input: f32) -> f32
+    pub(crate) fn step(self, input: f32) -> f32
         ensures { result ≡ axis_step self input }
     {
         let one_over_t = self.one_over_t(input);
         self.state + one_over_t * self.dt * (self.k * input - self.state)
     }
 
-    /// The input that is to bring the state to `desired`.
+    // The input that is to bring the state to `desired`.
     #[tactic(auto, unfolding(crate::specs::LagAxis::axis_invert))]
-    pub fn invert(self, desired: f32) -> f32
+    pub(crate) fn invert(self, desired: f32) -> f32
         ensures { result ≡ axis_invert self desired }
     {
         let one_over_t = self.one_over_t(desired);
