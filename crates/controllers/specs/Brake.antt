@@ -8,6 +8,7 @@ use Rattle.params.specs.Params.{brake_kp, brake_anti_jitter_rads, brake_max_curr
 use Rattle.tick.specs.declared.refusal.Refusal.{Refusal}
 use Rattle.tick.specs.TickLength.{tick_length_of, seconds_of}
 use Rattle.controllers.specs.declared.pid.PidSettings.{PidSettings}
+use Rattle.controllers.specs.declared.pid.PidMemory.{PidMemory}
 use Rattle.controllers.specs.PidAxes.{calculated, new_memory}
 use Rattle.controllers.specs.declared.active_brake.ActiveBrakeController.{ActiveBrakeController}
 
@@ -18,6 +19,10 @@ wheel_settings = record {
   anti_jitter_thresh = Some brake_anti_jitter_rads;
   output_limits = Some (neg brake_max_current_a, brake_max_current_a);
 }
+
+-- what it remembers of the wheels
+abbrev pub memory_of : ActiveBrakeController → PidMemory 4
+memory_of b = b.pid
 
 -- the currents, and the brake after the call
 pub record BrakeAnswer : Type 0 where

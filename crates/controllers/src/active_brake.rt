@@ -3,7 +3,7 @@
 ghost use Rattle.std.specs.Prelude.{◌≡◌};
 ghost use Rattle.tick.specs.Refusal.{number_of};
 ghost use Rattle.tick.specs.TickLength.{refusal_of};
-ghost use Rattle.controllers.specs.Brake.{new_brake, brake_of, computed, reset_brake};
+ghost use Rattle.controllers.specs.Brake.{new_brake, brake_of, memory_of, computed, reset_brake};
 
 use crate::pid::{PidMemory, PidSettings};
 use linear::Vector4f;
@@ -52,7 +52,7 @@ impl ActiveBrakeController {
 
     /// What it remembers of the wheels.
     pub fn memory(&self) -> PidMemory<4>
-        ensures { result ≡ self.now.pid }
+        ensures { result ≡ memory_of self.now }
     {
         self.pid
     }
