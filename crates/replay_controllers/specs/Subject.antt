@@ -1,6 +1,6 @@
 -- What a run drives, and what is compared after a call of it.
 use Rattle.std.specs.Prelude.{ℕ, List, Option, Some, option_map}
-use Rattle.core.specs.Result.{result_ok}
+use Rattle.std.specs.Result.{result_ok}
 use Rattle.controllers.specs.Brake.{brake_of}
 use Rattle.tick_block.specs.Word.{word_at}
 use Rattle.replay_controllers.specs.declared.layout.ListOf.{ListOf}

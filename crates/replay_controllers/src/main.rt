@@ -51,10 +51,11 @@ fn judge(rt: &HostRuntime, tally: Tally, right: bool) -> io::Result<Tally> {
 // Reads one call, and makes it.
 fn run_call(
     rt: &HostRuntime,
-    layout: Layout,
+    list: ListOf,
     subject: &mut Option<Subject>,
     tally: Tally,
 ) -> io::Result<Tally> {
+    let layout = layout_of(list);
     let Some(call) = read_record(rt, layout.call)? else {
         return Ok(cut_short(tally));
     };
@@ -67,10 +68,9 @@ fn run_call(
 
 // The calls of a run, as many as its header says, unless the input ends before.
 fn run_calls(rt: &HostRuntime, list: ListOf, header: &[u8], mut tally: Tally) -> io::Result<Tally> {
-    let layout = layout_of(list);
     let mut subject = Subject::of(list, header);
-    for _ in 0..word_at(header, layout.calls) {
-        tally = run_call(rt, layout, &mut subject, tally)?;
+    for _ in 0..word_at(header, layout_of(list).calls) {
+        tally = run_call(rt, list, &mut subject, tally)?;
         if tally.cut_short {
             break;
         }

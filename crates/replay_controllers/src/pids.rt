@@ -96,13 +96,9 @@ impl<const N: usize> Pid<N> {
         let dt = float_at(call, 1 + 3 * N);
         match word_at(call, 0) {
             0 => self.memory.calculate(&self.settings, setpoint, process, dt),
-            1 => self.memory.calculate_with_derivative(
-                &self.settings,
-                setpoint,
-                process,
-                derivative,
-                dt,
-            ),
+            1 => self
+                .memory
+                .calculate_with_derivative(&self.settings, setpoint, process, derivative, dt),
             _ => {
                 self.memory.reset();
                 [0.0; N]
