@@ -1,4 +1,4 @@
--- Each constant's bits are those of the decimal that the Rust writes, and where it writes a term, what binary32 makes of the term in its order. Assumes nothing.
+-- Each constant's bits are those of the decimal that the Rust writes, and where it writes a term, what binary32 makes of the term in its order.
 use Rattle.std.specs.Prelude.{◌≡◌, ℕ, ◌^◌, false, [], ◌∷◌, pos}
 use mathlib.Core.Path.{refl}
 use lib.Ieee.{Float, binary32, size, round, add, mul, div, neg, of_int, of_bits}
