@@ -58,7 +58,8 @@ impl AxisMemory {
         process_variable: f32,
         dt_s: f32,
     ) -> f32
-        ensures { let a = one_calculated settings.now self.old setpoint process_variable dt_s in (result ≡ a.output) × (self.new ≡ a.memory) }
+        ensures { let a = one_calculated settings.now self.old setpoint process_variable dt_s in
+            (result ≡ a.output) × (self.new ≡ a.memory) }
     {
         let de_dt = (setpoint - process_variable - self.prev_error) / dt_s;
         self.calculate_with_derivative(settings, setpoint, process_variable, de_dt, dt_s)
@@ -73,7 +74,8 @@ impl AxisMemory {
         derivative: f32,
         dt_s: f32,
     ) -> f32
-        ensures { let a = one_with_derivative settings.now self.old setpoint process_variable derivative dt_s in (result ≡ a.output) × (self.new ≡ a.memory) }
+        ensures { let a = one_with_derivative settings.now self.old setpoint process_variable derivative dt_s in
+            (result ≡ a.output) × (self.new ≡ a.memory) }
     {
         let gain = settings.gain;
         let error = setpoint - process_variable;
@@ -120,7 +122,8 @@ impl<const N: usize> PidMemory<N> {
         process_variable: [f32; N],
         dt_s: f32,
     ) -> [f32; N]
-        ensures { let a = calculated settings.now self.old setpoint.entry process_variable.entry dt_s in (result ≡ a.output) × (self.new ≡ a.memory) }
+        ensures { let a = calculated settings.now self.old setpoint.entry process_variable.entry dt_s in
+            (result ≡ a.output) × (self.new ≡ a.memory) }
     {
         let mut output = [0.0; N];
         for i in 0..N {
@@ -140,7 +143,8 @@ impl<const N: usize> PidMemory<N> {
         derivative: [f32; N],
         dt_s: f32,
     ) -> [f32; N]
-        ensures { let a = calculated_with_derivative settings.now self.old setpoint.entry process_variable.entry derivative.entry dt_s in (result ≡ a.output) × (self.new ≡ a.memory) }
+        ensures { let a = calculated_with_derivative settings.now self.old setpoint.entry process_variable.entry derivative.entry dt_s in
+            (result ≡ a.output) × (self.new ≡ a.memory) }
     {
         let mut output = [0.0; N];
         for i in 0..N {

@@ -87,7 +87,8 @@ impl<const N: usize> Pid<N> {
     #[tactic(auto, unfolding(crate::specs::Pids::answer))]
     fn answer(&mut self, call: &[u8]) -> [f32; N]
         requires { N ≤ 4 }
-        ensures { let a = answer self.old call.now in (result ≡ a.output) × (self.new ≡ record self.old { memory = a.memory }) }
+        ensures { let a = answer self.old call.now in
+            (result ≡ a.output) × (self.new ≡ record self.old { memory = a.memory }) }
     {
         let n = N as u8;
         let setpoint = floats_at(call, 1);
@@ -110,7 +111,8 @@ impl<const N: usize> Pid<N> {
     #[tactic(auto, unfolding(crate::specs::Pids::stepped))]
     pub(crate) fn step(&mut self, call: &[u8]) -> [u32; 12]
         requires { N ≤ 4 }
-        ensures { let told = stepped self.old call.now in (result ≡ told.words) × (self.new ≡ told.controller) }
+        ensures { let told = stepped self.old call.now in
+            (result ≡ told.words) × (self.new ≡ told.controller) }
     {
         let output = self.answer(call);
         words_of(output, self.memory)
