@@ -2,13 +2,15 @@
 use mathlib.Core.Path.{◌≡◌, refl, sym, ap, ◌∙◌}
 use Prim.Native.Nat.{ℕ, zero, suc, ◌<◌}
 use native.Mathlib.Nat.{le_of_suc-le-suc, not-suc-le-zero, lt_of_lt_of_le, le_of_eq}
+use native.Mathlib.Omega.{arith}
 use mathlib.Core.List.{List, [], ◌∷◌, map}
-use lib.ListN.{get_or, length}
+use lib.ListN.{get_or, length, replicate}
 use Rattle.controllers.specs.declared.pid.PidSettings.{PidSettings}
 use Rattle.controllers.specs.declared.pid.AxisMemory.{AxisMemory}
-use Rattle.controllers.specs.Axis.{AxisAnswer}
+use Rattle.controllers.specs.Axis.{no_memory}
 use Rattle.controllers.specs.Axes.{Ask, answers, Call, reset, after, after_call, after_calls, EachAxis, Each}
-use Rattle.controllers.proofs.AxisLaws.{Bounded, after_bounded, Ordered, Inside, answer-inside}
+use Rattle.controllers.specs.PidLaws.{alone, Bounded, Ordered, EachInside}
+use Rattle.controllers.proofs.AxisLaws.{after_bounded, answer-inside}
 
 -- ---- bounds
 
@@ -26,12 +28,6 @@ integrated_bounded (a ∷ parts) cs ms b = integrated_bounded parts cs (after_ca
 
 -- ---- limits: of every axis whose limits are in order, the output is within them
 
--- each output is within its axis's limits
-abbrev pub EachInside : List PidSettings → List AxisAnswer → Type 0
-EachInside cs [] = Unit {0}
-EachInside [] (a ∷ rest) = Unit {0}
-EachInside (c ∷ cs) (a ∷ rest) = Inside c.output_limits a.output × EachInside cs rest
-
 pub outputs_limited : (parts : List Ask) (cs : List PidSettings) (ms : List AxisMemory) → Each (λ c. Ordered c.output_limits) cs → EachInside cs (answers parts cs ms)
 unfolding answers
 outputs_limited [] cs ms h = tt
@@ -40,11 +36,6 @@ outputs_limited (a ∷ parts) (c ∷ cs) [] h = tt
 outputs_limited (a ∷ parts) (c ∷ cs) (m ∷ ms) h = (answer-inside a c m h.0, outputs_limited parts cs ms h.1)
 
 -- ---- the axes do not touch each other
-
--- the parts of one axis, one after the other
-abbrev pub alone : List Call → PidSettings → AxisMemory → AxisMemory
-alone [] c m = m
-alone (a ∷ parts) c m = alone parts c (after a c m)
 
 call_length : (parts : List Call) (cs : List PidSettings) (ms : List AxisMemory) → length (after_call parts cs ms) ≡ length ms
 unfolding after_call
@@ -71,3 +62,14 @@ axes_apart [] cs ms i settings other p q r = refl
 axes_apart (a ∷ parts) cs ms i settings other p q r =
     axes_apart parts cs (after_call a cs ms) i settings other p.1 q (lt_of_lt_of_le r (le_of_eq (sym (call_length a cs ms))))
     ∙ ap (alone (map (λ b. get_or b i reset) parts) (get_or cs i settings)) (call_apart a cs ms i settings other p.0 q r)
+
+-- ---- reset
+
+-- a reset of every axis leaves what a new controller remembers
+pub reset_new : (n : ℕ) (cs : List PidSettings) (ms : List AxisMemory) → length cs ≡ n → length ms ≡ n → after_call (replicate n reset) cs ms ≡ replicate n no_memory
+unfolding after_call
+reset_new zero cs [] h k = refl
+reset_new zero cs (m ∷ ms) h k = absurd (omega arith)
+reset_new (suc n) [] ms h k = absurd (omega arith)
+reset_new (suc n) (c ∷ cs) [] h k = absurd (omega arith)
+reset_new (suc n) (c ∷ cs) (m ∷ ms) h k = ap (λ rest. no_memory ∷ rest) (reset_new n cs ms (omega arith) (omega arith))

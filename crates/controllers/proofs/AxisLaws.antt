@@ -12,16 +12,9 @@ use Rattle.controllers.specs.declared.pid.AxisMemory.{AxisMemory}
 use Rattle.std.specs.Prelude.{Option, None, Some}
 use Rattle.controllers.specs.Axis.{anti_jitter, limited, integrated, response, one_calculated, one_with_derivative, no_memory}
 use Rattle.controllers.specs.Axes.{Ask, answer, calculate, calculate_with_derivative, Call, ask, reset, after}
+use Rattle.controllers.specs.PidLaws.{Bounded, Ordered, Inside}
 
 -- ---- the integrated error
-
--- the bounds of the integrated error enclose zero, and enclose it
-pub record Bounded (c : PidSettings) (m : AxisMemory) : Type 0 where
-  pub below : T (le c.gain.ki_err_min zero_float)
-  pub above : T (le zero_float c.gain.ki_err_max)
-  pub ordered : T (le c.gain.ki_err_min c.gain.ki_err_max)
-  pub least : T (le c.gain.ki_err_min m.integrated_error)
-  pub most : T (le m.integrated_error c.gain.ki_err_max)
 
 integrated-between : (g : PidGains) (m : AxisMemory) (e dt : Float) → T (le g.ki_err_min g.ki_err_max) → T (le g.ki_err_min (integrated g m e dt)) × T (le (integrated g m e dt) g.ki_err_max)
 unfolding integrated
@@ -40,15 +33,6 @@ after_bounded reset c m b = record { below = b.below; above = b.above; ordered =
 
 -- ---- the output
 
--- the limits are in order, and an output is within them, where there are any
-abbrev pub Ordered : Option (Float × Float) → Type 0
-Ordered None = Unit {0}
-Ordered (Some w) = T (le w.0 w.1)
-
-abbrev pub Inside : Option (Float × Float) → Float → Type 0
-Inside None out = Unit {0}
-Inside (Some w) out = T (le w.0 out) × T (le out w.1)
-
 -- with limits, every output is within them
 limited-inside : (l : Option (Float × Float)) (out : Float) → Ordered l → Inside l (limited l out)
 unfolding limited
@@ -61,9 +45,9 @@ answer-inside (calculate s v dt) c m h = limited-inside c.output_limits _ h
 answer-inside (calculate_with_derivative s v d dt) c m h = limited-inside c.output_limits _ h
 
 -- and NaN gives the lower one
-pub limited-nan : (lo hi : Float) → limited (Some (lo, hi)) nan ≡ lo
+pub limited_nan : (lo hi : Float) → limited (Some (lo, hi)) nan ≡ lo
 unfolding limited
-limited-nan lo hi = clamp_nan lo hi
+limited_nan lo hi = clamp_nan lo hi
 
 -- below a threshold above zero the output is scaled by |error| / threshold
 pub anti_jitter_below : (t out err : Float) → lt zero_float t ≡ true → lt (magnitude err) t ≡ true → anti_jitter (Some t) out err ≡ div binary32 (mul binary32 out (magnitude err)) t

@@ -3,6 +3,7 @@
 #![tactic(auto)]
 
 pub mod values; // values.rt: every constant in this file's order, each by its bits
+pub mod decimals; // decimals.rt: what is proved of the constants' decimals
 
 use linear::Vector3f;
 

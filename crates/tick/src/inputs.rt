@@ -43,7 +43,7 @@ pub struct SteerInput {
     /// By the estimate's heading.
     pub heading: Rotation,
     pub stop: bool,
-    /// The planner's mark: the call is refused by `Refusal::PlannerFailed`.
+    /// The planner's mark: where a new plan is needed, the call is refused by `Refusal::PlannerFailed`.
     pub planner_failed: bool,
 }
 

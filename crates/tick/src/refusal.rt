@@ -10,7 +10,7 @@ use std::fmt;
 pub enum Refusal {
     /// The tick length k is not from 1 to 64.
     TickLength = 1,
-    /// The call is not the turn's.
+    /// The call comes out of turn.
     OutOfTurn = 2,
     /// Sight after 16,777,216 ticks.
     TickLimit = 3,
@@ -24,13 +24,13 @@ pub enum Refusal {
     Version = 7,
     /// The block's flags are 32 or more, or a spare word is not zero.
     Spare = 8,
-    /// The block's tick length is not the drive's.
+    /// The block's tick length is not its pass's.
     OtherTickLength = 9,
-    /// The block's tick number is not the next.
+    /// The block's tick number is not the pass's next.
     Order = 10,
     /// The estimator's mark is set.
     EstimatorFailed = 11,
-    /// The planner's mark is set.
+    /// The planner's mark is set where a new plan is needed.
     PlannerFailed = 12,
 }
 
@@ -59,7 +59,7 @@ impl fmt::Display for Refusal {
             Refusal::Check => "the block's check does not match its words",
             Refusal::Version => "the block's version is not 1",
             Refusal::Spare => "the block's flags are not below 32, or a spare word is not zero",
-            Refusal::OtherTickLength => "the block's tick length is not the drive's",
+            Refusal::OtherTickLength => "the block's tick length is not its pass's",
             Refusal::Order => "the block's tick number is not the next",
             Refusal::EstimatorFailed => "the estimator failed",
             Refusal::PlannerFailed => "the planner failed",
