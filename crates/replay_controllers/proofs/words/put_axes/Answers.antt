@@ -1,13 +1,12 @@
--- Assumes nothing.
 use Rattle.std.proofs.Common.{◌∙◌, sym, ◌<◌, ◌≤◌, length, arith}
 use Rattle.replay_controllers.proofs.Loops.{put_next, put_done}
-use Rattle.replay_controllers.proofs.remembered.put_axes.Goals as goal
+use Rattle.replay_controllers.proofs.words.put_axes.Goals as goal
 
 pub loop-i-preserved : goal.loop-i-preserved
 loop-i-preserved g c =
     let o : c.loop-i.i < length c.args.output = omega arith in
-    let a : c.loop-i.i < length c.args.c.axes = omega arith in
-    rw c.put_axis.ensures (put_next g.row.N c.loop-i.i c.args.output c.args.c.axes _ _ _ o a ∙ c.loop-i.invariant)
+    let a : c.loop-i.i < length c.args.memory.axes = omega arith in
+    rw c.put_axis.ensures (put_next g.row.N c.loop-i.i c.args.output c.args.memory.axes _ _ _ o a ∙ c.loop-i.invariant)
 
 pub returns : goal.returns
 returns g c =
