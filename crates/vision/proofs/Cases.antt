@@ -1,4 +1,4 @@
--- Document 01's starred cases of the active mark, from the law of the clock, and closed cases of the gate by computation. Assumes nothing.
+-- Worked values of the active mark, from the law of the clock, and closed cases of the gate by computation.
 use mathlib.Core.Path.{◌≡◌, refl}
 use Prim.Native.Nat.{ℕ, zero, suc}
 use mathlib.Core.Bool.{true, false}
@@ -14,7 +14,7 @@ use Rattle.tick.specs.TickLength.{seconds_of}
 use Rattle.tick.specs.declared.action.GateAction.TheVariants.{Accumulate, SeedComplete, SeedReset, AcceptJump, FirstReject, Reject}
 use Rattle.vision.specs.declared.gate.VisionGateState.{VisionGateState}
 use Rattle.vision.specs.declared.gate.VisionGateState.TheVariants.{Seeding, Tracking}
-use Rattle.vision.specs.declared.gate.Judgement.{Judgement}
+use Rattle.vision.specs.Gate.{Judgement}
 use Rattle.vision.specs.Seeding.{fresh_seeding, gathered, deviation, steady}
 use Rattle.vision.specs.Gate.{seeding_judged, distance, radius, tracking_judged, sighting_judged, quiet, judged}
 use Rattle.vision.specs.Vision.{active}

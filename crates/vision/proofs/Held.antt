@@ -1,6 +1,6 @@
 -- Gate and clock together, tick by tick: m ticks of k/4096 s after the last taken sighting, with no reset since, t and the vision clock are
 -- the sums that the laws of the radius and of the active mark speak of; after a reset the clock stands until a sighting is taken.
--- Assumes nothing.
+--
 use mathlib.Core.Path.{◌≡◌, ap, ◌∙◌}
 use Prim.Native.Nat.{ℕ, suc, ◌*◌, ◌≤◌}
 use mathlib.Core.Bool.{Bool, true, false}

@@ -1,5 +1,5 @@
 -- What an outcome says of the gate after it: a taken sighting leaves the gate tracking at 0.0, any other tick lets a tracking gate's t grow,
--- NaN is never taken, and a seeding that is kept holds fewer than 20 sightings, so that its n never wraps. Assumes nothing.
+-- NaN is never taken, and a seeding that is kept holds fewer than 20 sightings, so that its n never wraps.
 use mathlib.Core.Path.{◌≡◌, refl, sym, ap, ◌∙◌}
 use mathlib.Core.Logic.{◌⊎◌, inl, inr}
 use Prim.Native.Nat.{◌+◌, ◌≤◌, ◌<◌}
@@ -18,7 +18,7 @@ use Rattle.vision.specs.declared.seeding.Seeding.{Seeding}
 use Rattle.vision.specs.declared.gate.VisionGateState.{VisionGateState}
 use Rattle.vision.specs.declared.gate.VisionGateState.TheVariants as Gate
 use Rattle.tick.specs.declared.action.GateAction.TheVariants.{Accumulate, SeedComplete, SeedReset, Accept, AcceptJump, FirstReject, Reject}
-use Rattle.vision.specs.declared.gate.Judgement.{Judgement}
+use Rattle.vision.specs.Gate.{Judgement}
 use Rattle.tick.specs.Outcome.{takes}
 use Rattle.vision.specs.Seeding.{fresh_seeding, gathered, deviation_x, deviation_y, steady}
 use Rattle.vision.specs.Gate.{seeding_judged, distance, radius, tracking_judged, sighting_judged, quiet, judged}

@@ -1,5 +1,5 @@
 -- The gate's radius over ticks that take no sighting: it passes every distance up to D metres once m * k ≥ 2048 * D, and only the first of
--- them can be a first refusal. Assumes nothing.
+-- them can be a first refusal.
 use mathlib.Core.Path.{◌≡◌, refl, sym, ◌∙◌}
 use Prim.Native.Nat.{ℕ, zero, suc, ◌+◌, ◌*◌, ◌≤◌}
 use native.Mathlib.Nat.{le_refl, suc-mul}

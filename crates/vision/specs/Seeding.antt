@@ -1,4 +1,4 @@
--- Document 01, 'Gate', 'Seeding': what is gathered, and when it is steady. Every step is rounded to binary32. Assumes nothing.
+-- What a seeding gathers, and when it is steady (docs/RULES.md, 'Seeding'). Every step is rounded to binary32.
 use Rattle.std.specs.Prelude.{◌+◌, ◌%◌, ◌^◌, Bool, ◌&&◌, pos, Float}
 use Rattle.std.specs.Float.{binary32}
 use Rattle.std.specs.Float.Ieee.{of_int, add, sub, mul, div, lt}
@@ -8,11 +8,11 @@ use Rattle.linear.specs.Vector.{zeros2}
 use Rattle.params.specs.Params.{vision_seed_pos_std_thresh_m}
 use Rattle.vision.specs.declared.seeding.Seeding.{Seeding}
 
--- a fresh seeding
+-- nothing gathered
 unfoldable pub fresh_seeding : Seeding
 fresh_seeding = record { n = 0; pos_sum = zeros2; pos_sq_sum = zeros2 }
 
--- 'n and four sums grow': x and y, and their squares
+-- n and the four sums grow: of x and y, and of their squares
 unfoldable pub gathered : Seeding → Vector3f → Seeding
 gathered s v = record {
   n = (s.n + 1) % 2 ^ 32;
@@ -29,13 +29,12 @@ deviation sum squares n =
     let mean = div binary32 sum n in
     square_root binary32 (sub binary32 (div binary32 squares n) (mul binary32 mean mean))
 
--- one for each entry, here and below: a vector's entries have names
 abbrev pub deviation_x : Seeding → Float
 deviation_x s = deviation s.pos_sum.x s.pos_sq_sum.x (of_int binary32 (pos s.n))
 
 abbrev pub deviation_y : Seeding → Float
 deviation_y s = deviation s.pos_sum.y s.pos_sq_sum.y (of_int binary32 (pos s.n))
 
--- 'both deviations are strictly below 0.03'; a NaN is below nothing
+-- both deviations are strictly below 0.03 m; a NaN is below nothing
 unfoldable pub steady : Seeding → Bool
 steady s = lt (deviation_x s) vision_seed_pos_std_thresh_m && lt (deviation_y s) vision_seed_pos_std_thresh_m

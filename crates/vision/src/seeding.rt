@@ -1,4 +1,4 @@
-// A seeding: sightings gathered until their places are known to be steady.
+//! A seeding: sightings gathered until their places are known to be steady (docs/RULES.md, 'Seeding').
 
 ghost use Rattle.std.specs.Prelude.{◌≡◌};
 ghost use Rattle.vision.specs.Seeding.{fresh_seeding, gathered, deviation, steady};
@@ -7,7 +7,7 @@ use ieee754::root::sqrt;
 use linear::{Vector2f, Vector3f, ZEROS_2};
 use params::VISION_SEED_POS_STD_THRESH_M;
 
-// The sightings of a seeding: how many, the sums of their places and of the squares.
+/// The sightings of a seeding: how many, the sums of their places in metres, and of the squares.
 #[derive(Clone, Copy)]
 pub struct Seeding {
     pub n: u32,
@@ -25,7 +25,7 @@ fn deviation_of(sum: f32, sq_sum: f32, nf: f32) -> f32
 }
 
 impl Seeding {
-    // A seeding that has seen nothing, the Rust's default.
+    /// A seeding that has seen nothing: `VisionGateState::default` of control_context.rs.
     #[tactic(auto, unfolding(crate::specs::Seeding::fresh_seeding, linear::specs::Vector::zeros2))]
     pub fn fresh() -> Seeding
         ensures { result ≡ fresh_seeding }
@@ -37,32 +37,22 @@ impl Seeding {
         }
     }
 
-    // One sighting more.
+    /// Gathers one sighting more.
     #[tactic(auto, unfolding(crate::specs::Seeding::gathered))]
-    pub fn gather(self, sighting: Vector3f) -> Seeding
-        ensures { result ≡ gathered self sighting }
+    pub fn gather(&mut self, sighting: Vector3f)
+        ensures { self.new ≡ gathered self.old sighting }
     {
-        let x = sighting.x;
-        let y = sighting.y;
-        let sum = Vector2f {
-            x: self.pos_sum.x + x,
-            y: self.pos_sum.y + y,
-        };
-        let sq_sum = Vector2f {
-            x: self.pos_sq_sum.x + x * x,
-            y: self.pos_sq_sum.y + y * y,
-        };
-        Seeding {
-            n: self.n.wrapping_add(1),
-            pos_sum: sum,
-            pos_sq_sum: sq_sum,
-        }
+        self.n = self.n.wrapping_add(1);
+        self.pos_sum.x += sighting.x;
+        self.pos_sum.y += sighting.y;
+        self.pos_sq_sum.x += sighting.x * sighting.x;
+        self.pos_sq_sum.y += sighting.y * sighting.y;
     }
 
-    // Whether both deviations are small; a NaN is not.
+    /// Whether both deviations are small; a NaN is not.
     #[tactic(auto, unfolding(crate::specs::Seeding::steady))]
-    pub fn is_steady(self) -> bool
-        ensures { result ≡ steady self }
+    pub fn is_steady(&self) -> bool
+        ensures { result ≡ steady self.now }
     {
         let nf = std::num::nearest_u32_to_f32(self.n);
         let x = deviation_of(self.pos_sum.x, self.pos_sq_sum.x, nf);
