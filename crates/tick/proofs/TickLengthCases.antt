@@ -1,4 +1,4 @@
--- Document 01's starred cases of the tick length, each by computation. Assumes nothing.
+-- Worked values of the tick length, each by computation.
 use mathlib.Core.Path.{◌≡◌, refl}
 use Rattle.std.specs.Prelude.{Ok}
 use Rattle.tick.specs.Refusal.{number_of}
@@ -14,11 +14,11 @@ unfolding tick_length_of
 sixty_five_refused = refl
 
 -- k 1 and 64 accepted
-pub one_made : tick_length_of 1 ≡ Ok (record { k = 1 })
+pub one_made : tick_length_of 1 ≡ Ok 1
 unfolding tick_length_of
 one_made = refl
 
-pub sixty_four_made : tick_length_of 64 ≡ Ok (record { k = 64 })
+pub sixty_four_made : tick_length_of 64 ≡ Ok 64
 unfolding tick_length_of
 sixty_four_made = refl
 

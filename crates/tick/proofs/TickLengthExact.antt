@@ -1,18 +1,18 @@
--- A tick length in seconds is k/4096 exactly, in microseconds the same rounded down, and its k is from 1 to 64. Assumes nothing.
+-- A tick length in seconds is k/4096 exactly, in microseconds the same rounded down, and its k is from 1 to 64.
 use Prim.Native.Nat.{ℕ, ◌+◌, ◌*◌, ◌^◌, ◌<◌, ◌≤◌}
 use mathlib.Core.Path.{◌≡◌, refl, sym, ap, ◌∙◌, subst}
-use mathlib.Core.Bool.{Bool, true, false, cond}
+use mathlib.Core.Bool.{Bool, true, false, ◌&&◌}
 use native.Mathlib.Nat.{le_of_lt, lt_trans, mul_comm, mul_assoc, mul-pos}
 use native.Mathlib.Omega.{arith}
-use borrow.Author.Tests.{ltb-true, ltb-false}
-use lib.Dec.{lit<, ltb}
+use borrow.Author.Tests.{leb-true, leb-false}
+use lib.Dec.{lit<, leb}
 use lib.Pow.{shl_lt}
 use lib.Ieee.{Float, nan, inf, fin, binary32, up, down, round, div, of_int, of_bits}
 use lib.Ieee.Fits.{down_pos}
 use lib.Ieee.Exact.{HasValue, round_exact}
 use lib.Ieee.Back.{round_whole}
 use lib.Ieee.Scale.{round_same}
-use Rattle.tick.specs.TickLength.{is_tick_length, seconds_of, micros_of}
+use Rattle.tick.specs.TickLength.{IsTickLength, is_tick_length, seconds_of, micros_of}
 
 -- a float that is the whole number k, divided by 4096.0, is k/4096 rounded once
 quotient : (x : Float) (k : ℕ) → HasValue x false k 1 → div binary32 x (of_bits binary32 0x4580_0000) ≡ round binary32 false k 4096
@@ -38,10 +38,19 @@ pub micros_floor : (k : ℕ) → (micros_of k * 4096 ≤ 1000000 * k) × (100000
 unfolding micros_of
 micros_floor k = omega arith
 
--- The tests of `is_tick_length` say 1 ≤ k ≤ 64.
-pub tick_length_bounds : (k : ℕ) → is_tick_length k ≡ true → (1 ≤ k) × (k ≤ 64)
-tick_length_bounds k h = go (ltb k 1) refl h
+-- The test of a tick length is the fact, both ways.
+pub tick_length_bounds : (k : ℕ) → is_tick_length k ≡ true → IsTickLength k
+tick_length_bounds k h = go (leb 1 k) (leb k 64) refl refl h
   where
-    go : (b : Bool) → ltb k 1 ≡ b → cond b false (ltb k 65) ≡ true → (1 ≤ k) × (k ≤ 64)
-    go true e g = let z : ◌≡◌ {A = ℕ} 0 1 = cc in omega arith
-    go false e g = omega (arith, ltb-false k 1 e, ltb-true k 65 g)
+    go : (a b : Bool) → leb 1 k ≡ a → leb k 64 ≡ b → a && b ≡ true → IsTickLength k
+    go true true d e g = (leb-true 1 k d, leb-true k 64 e)
+    go true false d e g = let z : ◌≡◌ {A = ℕ} 0 1 = cc in absurd (omega arith)
+    go false b d e g = let z : ◌≡◌ {A = ℕ} 0 1 = cc in absurd (omega arith)
+
+pub bounds_tick_length : (k : ℕ) → IsTickLength k → is_tick_length k ≡ true
+bounds_tick_length k h = go (leb 1 k) (leb k 64) refl refl
+  where
+    go : (a b : Bool) → leb 1 k ≡ a → leb k 64 ≡ b → a && b ≡ true
+    go true true d e = refl
+    go true false d e = absurd (omega (arith, leb-false k 64 e, h.1))
+    go false b d e = absurd (omega (arith, leb-false 1 k d, h.0))

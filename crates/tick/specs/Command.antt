@@ -2,17 +2,12 @@
 use Rattle.std.specs.Prelude.{ℕ, Bool, cond, List, [], ◌∷◌, eqb, ltb, Float, Result, Ok, Err}
 use Rattle.tick.specs.declared.refusal.Refusal.{Refusal}
 use Rattle.tick.specs.declared.refusal.Refusal.TheVariants as Why
+use Rattle.tick.specs.Mode.{is_mode}
 use Rattle.linear.specs.Vector.{entry}
 use Rattle.tick.specs.declared.command.GlobalPosition.{GlobalPosition}
 use Rattle.tick.specs.declared.command.HeadingLine.{HeadingLine}
 use Rattle.tick.specs.declared.command.ManeuverCommand.{ManeuverCommand}
 use Rattle.tick.specs.declared.command.ManeuverCommand.TheVariants as Cmd
-
--- ---- modes
-
--- mode 0..3
-abbrev pub is_mode : ℕ → Bool
-is_mode mode = ltb mode 4
 
 -- a command's mode number: 0 off, 1 brake, 2 position, 3 line
 abbrev pub mode_of : ManeuverCommand → ℕ

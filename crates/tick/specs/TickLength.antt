@@ -1,22 +1,25 @@
--- The tick length, a term of document 01: dt = k/4096 s, with k from 1 to 64. Assumes nothing.
-use Rattle.std.specs.Prelude.{ℕ, ◌*◌, ◌/◌, Bool, false, cond, pos, ltb, Float, Result, Ok, Err}
+-- The tick length, k/4096 s with k from 1 to 64 (docs/RULES.md, 'The tick length'). A TickLength is its number k here.
+use Rattle.std.specs.Prelude.{ℕ, ◌*◌, ◌/◌, ◌≤◌, Bool, false, if◌then◌else◌, ◌&&◌, nat_le, pos, Float, Result, Ok, Err}
 use Rattle.std.specs.Float.{binary32}
 use Rattle.std.specs.Float.Ieee.{div, of_int, of_bits}
 use Rattle.tick.specs.declared.refusal.Refusal.{Refusal}
 use Rattle.tick.specs.declared.refusal.Refusal.TheVariants as Why
-use Rattle.tick.specs.declared.tick_length.TickLength.{TickLength}
 
--- k is a tick length's: not below 1, and below 65
+-- what every TickLength is by its type
+abbrev pub IsTickLength : ℕ → Type 0
+IsTickLength k = (1 ≤ k) × (k ≤ 64)
+
+-- the same, as a test
 abbrev pub is_tick_length : ℕ → Bool
-is_tick_length k = cond (ltb k 1) false (ltb k 65)
+is_tick_length k = nat_le 1 k && nat_le k 64
 
--- document 01's number for a k: 1 where it is refused, 0 where it is not
+-- the refusal's number for a k, 0 where it is none
 abbrev pub refusal_of : ℕ → ℕ
-refusal_of k = cond (is_tick_length k) 0 1
+refusal_of k = if is_tick_length k then 0 else 1
 
 -- the answer to a k
-unfoldable pub tick_length_of : ℕ → Result TickLength Refusal
-tick_length_of k = cond (is_tick_length k) (Ok (record { k = k })) (Err Why.TickLength)
+unfoldable pub tick_length_of : ℕ → Result ℕ Refusal
+tick_length_of k = if is_tick_length k then Ok k else Err Why.TickLength
 
 -- k/4096 s as a float: k, divided by 4096.0
 unfoldable pub seconds_of : ℕ → Float

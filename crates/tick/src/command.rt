@@ -1,7 +1,8 @@
 // Commands and their words.
+
 ghost use Rattle.std.specs.Prelude.{◌≡◌};
 ghost use Rattle.tick.specs.Refusal.{number_of};
-ghost use Rattle.tick.specs.Command.{is_mode, position_from, line_from, command_from, refusal_of};
+ghost use Rattle.tick.specs.Command.{position_from, line_from, command_from, refusal_of};
 
 use crate::refusal::Refusal;
 use linear::Vector3f;
@@ -42,13 +43,6 @@ pub enum ManeuverCommand {
 
 // A block's command words, 24-36, as floats.
 pub type CommandWords = [f32; 13];
-
-// A mode is a number: document 01 has it so, and an enum of the four would ask more of callers.
-pub fn is_mode(mode: u32) -> bool
-    ensures { result ≡ is_mode mode }
-{
-    mode < 4
-}
 
 impl From<CommandWords> for GlobalPosition {
     #[tactic(auto, unfolding(crate::specs::Command::position_from))]

@@ -1,18 +1,33 @@
-// The tick length, a term of document 01: k/4096 s, with k from 1 to 64.
+//! The tick length: how long one tick lasts, k/4096 s with k from 1 to 64 (docs/RULES.md, 'The tick length').
 ghost use Rattle.std.specs.Prelude.{◌≡◌};
 ghost use Rattle.tick.specs.Refusal.{number_of};
-ghost use Rattle.tick.specs.TickLength.{tick_length_of, refusal_of, seconds_of, micros_of};
+ghost use Rattle.tick.specs.TickLength.{IsTickLength, tick_length_of, refusal_of, seconds_of, micros_of};
 
 use crate::refusal::Refusal;
+use std::marker::Model;
 
-// k is a u8, so that the methods lose nothing at any k and ask for no bound.
+/// A tick length. A contract sees it as its number k, which is from 1 to 64 by the type.
 #[derive(Clone, Copy, Debug, PartialEq, Eq)]
 pub struct TickLength {
-    pub k: u8,
+    k: u8,
+}
+
+impl Model for TickLength {
+    ghost use Rattle.std.specs.Prelude.{ℕ};
+
+    ghost Value = { ℕ };
+
+    ghost use Rattle.tick.specs.TickLength.{IsTickLength};
+
+    ghost view = { λ t. t.k };
+
+    ghost invariant = { λ t. IsTickLength t.k };
+
+    ghost inverse = { λ k. record { k = k } };
 }
 
 impl TickLength {
-    // Refusal 1 where k is not from 1 to 64.
+    /// The tick length of k/4096 s, or `Refusal::TickLength` where k is not from 1 to 64.
     #[tactic(auto, unfolding(crate::specs::TickLength::tick_length_of))]
     pub fn new(k: u32) -> Result<TickLength, Refusal>
         ensures { (result ≡ tick_length_of k) × (number_of result ≡ refusal_of k) }
@@ -23,18 +38,28 @@ impl TickLength {
         }
     }
 
-    // dt in seconds, exact.
+    /// The number k.
+    pub fn k(self) -> u8
+        ensures value { result ≡ self }
+        ensures valid { IsTickLength self }
+    {
+        self.k
+    }
+
+    /// In seconds, exact.
     #[tactic(auto, unfolding(crate::specs::TickLength::seconds_of))]
     pub fn seconds(self) -> f32
-        ensures { result ≡ seconds_of self.k }
+        ensures value { result ≡ seconds_of self }
+        ensures valid { IsTickLength self }
     {
         self.k as f32 / 4096.0
     }
 
-    // dt in whole microseconds, rounded down, for the encoder lag.
+    /// In whole microseconds, rounded down.
     #[tactic(auto, unfolding(crate::specs::TickLength::micros_of))]
     pub fn micros(self) -> u32
-        ensures { result ≡ micros_of self.k }
+        ensures value { result ≡ micros_of self }
+        ensures valid { IsTickLength self }
     {
         15625 * (self.k as u32) / 64
     }

@@ -1,5 +1,4 @@
 -- The sum of m tick lengths of k/4096 s in binary32: exactly m * k / 4096 up to 2 ^ 24 / 4096 = 4096 s, and never below that from there on.
---
 use mathlib.Core.Path.{◌≡◌, refl, sym, subst}
 use Prim.Native.Nat.{ℕ, zero, suc, ◌+◌, ◌*◌, ◌^◌, ◌≤◌, ◌<◌}
 use native.Mathlib.Nat.{le_refl, lt_trans, zero-mul, suc-mul, mul_assoc}
@@ -13,7 +12,8 @@ use lib.Ieee.Exact.{HasValue, round_exact}
 use Rattle.tick.specs.TickLength.{seconds_of}
 use Rattle.tick.proofs.TickLengthExact.{seconds_exact}
 use Rattle.vision.specs.Since.{since_taken}
-use Rattle.vision.proofs.Least.{AtLeast, value_least, add_values, add_least}
+use Rattle.vision.specs.Laws.{AtLeast}
+use Rattle.vision.proofs.Least.{value_least, add_values, add_least}
 
 -- n / 4096 is a value of the format up to n = 2 ^ 24
 pub exact_at : (n : ℕ) → n ≤ 2 ^ 24 → HasValue (round binary32 false n 4096) false n 4096

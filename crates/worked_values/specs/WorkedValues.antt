@@ -1,4 +1,4 @@
--- Document 01, 'Cases': the starred ones, shown of the rules themselves, in its order. `proofs/Starred.antt` proves them. Assumes nothing.
+-- Worked values of the rules, each shown of the definition itself. The contract of `worked_values` names them.
 use Rattle.std.specs.Prelude.{◌≡◌, ℕ, Bool, true, false, Float}
 use Rattle.std.specs.Float.{nan, binary32}
 use Rattle.std.specs.Float.Ieee.{of_bits, to_bits}
@@ -43,40 +43,40 @@ nan_twist = record { x = nan; y = zero_float; z = zero_float }
 abbrev pub NumberFor : ℕ → ℕ → Type 0
 NumberFor k n = (number_of (new_of k) ≡ n) × (number_of (Brake.brake_of k) ≡ n) × (number_of (Lag.lag_of k) ≡ n)
 
-pub record Starred : Type 0 where
-  -- 'k 0 and 65: 1'
+pub record WorkedValues : Type 0 where
+  -- k 0 and 65: refused with 1
   pub k_0 : NumberFor 0 1
   pub k_65 : NumberFor 65 1
-  -- 'k 1 and 64 accepted'
+  -- k 1 and 64: accepted
   pub k_1 : NumberFor 1 0
   pub k_64 : NumberFor 64 0
-  -- 'k 4: lag 976 µs, 10 steps'
+  -- k 4: the lag's tick is 976 µs, and it has 10 steps
   pub lag_micros : micros_of 4 ≡ 976
   pub lag_steps : (Lag.new_lag 4).n_steps ≡ 10
-  -- 'k 4: active at m 512, not 513'
+  -- k 4: active after 512 ticks, not after 513
   pub four_512 : active_at 4 512 ≡ true
   pub four_513 : active_at 4 513 ≡ false
-  -- 'k 3: 682 yes, 683 no'
+  -- k 3: after 682, not after 683
   pub three_682 : active_at 3 682 ≡ true
   pub three_683 : active_at 3 683 ≡ false
-  -- 'k 64: 32 yes, 33 no'
+  -- k 64: after 32, not after 33
   pub sixty_four_32 : active_at 64 32 ≡ true
   pub sixty_four_33 : active_at 64 33 ≡ false
-  -- 'Root of 2.0: 3fb504f3; of -0.0: itself'
+  -- the root of 2.0 is 3fb504f3, of -0.0 itself
   pub root_2 : square_root binary32 (float 0x4000_0000) ≡ float 0x3fb5_04f3
   pub root_minus_zero : square_root binary32 (float 0x8000_0000) ≡ float 0x8000_0000
-  -- 'Remainder of 40490fdb: itself; of 40490fdc: c0490fda'
+  -- the remainder of 40490fdb is itself, of 40490fdc c0490fda
   pub remainder_pi : remainder_by binary32 (float 0x4049_0fdb) tau ≡ float 0x4049_0fdb
   pub remainder_past_pi : remainder_by binary32 (float 0x4049_0fdc) tau ≡ float 0xc049_0fda
-  -- '`hypotf`(3, 4) = 5; (infinity, NaN) = infinity'
+  -- `hypotf` of 3 and 4 is 5, of infinity and NaN infinity
   pub hypot_3_4 : hypotenuse (float 0x4040_0000) (float 0x4080_0000) ≡ float 0x40a0_0000
   pub hypot_infinity : hypotenuse (float 0x7f80_0000) (float 0x7fc0_0000) ≡ float 0x7f80_0000
-  -- 'Fresh brake: 500.0 gives -1.0, -500.0 gives 1.0', at every tick length
+  -- a fresh brake gives -1.0 at 500.0 and 1.0 at -500.0, at every tick length
   pub brake_500 : (k : ℕ) → is_tick_length k ≡ true → current_bits k (float 0x43fa_0000) ≡ 0xbf80_0000
   pub brake_minus_500 : (k : ℕ) → is_tick_length k ≡ true → current_bits k (float 0xc3fa_0000) ≡ 0x3f80_0000
-  -- 'NaN and -infinity give -1.0'
+  -- and -1.0 at NaN and at -infinity
   pub brake-nan : (k : ℕ) → is_tick_length k ≡ true → current_bits k (float 0x7fc0_0000) ≡ 0xbf80_0000
   pub brake_minus_infinity : (k : ℕ) → is_tick_length k ≡ true → current_bits k (float 0xff80_0000) ≡ 0xbf80_0000
-  -- 'Twist 10.0: unclamped; NaN: NaN, marked clamped'
+  -- a twist at its bounds is unclamped; NaN stays NaN and is marked clamped
   pub twist_10 : twist_clamped at_bounds ≡ record { value = at_bounds; clamped = false }
   pub twist_nan : twist_clamped nan_twist ≡ record { value = nan_twist; clamped = true }

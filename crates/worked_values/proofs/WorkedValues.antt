@@ -1,4 +1,4 @@
--- The starred cases hold: each crate computed its own. Assumes nothing.
+-- The worked values hold: each crate computed its own.
 use Rattle.std.proofs.Common.{◌≡◌, ℕ, Bool, true, false, ◌&&◌, T, eqb, refl, eqb-true}
 use Rattle.ieee754.proofs.RootCases as Root
 use Rattle.ieee754.proofs.RemainderCases as Remainder
@@ -12,7 +12,7 @@ use Rattle.controllers.proofs.EncoderCases as Lag
 use Rattle.vision.proofs.Cases as Gate
 use Rattle.control_context.proofs.ClampedCases as Limits
 use Rattle.body_controller.specs.Controller.{new_of}
-use Rattle.cases.specs.Starred.{float, current_bits, NumberFor, Starred}
+use Rattle.worked_values.specs.WorkedValues.{float, current_bits, NumberFor, WorkedValues}
 
 -- the brake's four, of one test
 pub record Currents (k : ℕ) : Type 0 where
@@ -56,8 +56,8 @@ accepted_64 : NumberFor 64 0
 unfolding new_of tick_length_of brake_of lag_of
 accepted_64 = (refl, refl, refl)
 
-pub starred : Starred
-starred = record {
+pub worked_values : WorkedValues
+worked_values = record {
   k_0 = refused_0;
   k_65 = refused_65;
   k_1 = accepted_1;

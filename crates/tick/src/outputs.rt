@@ -1,0 +1,22 @@
+//! What a controller puts out in a tick.
+use linear::{Vector3f, Vector4f, ZEROS_3, ZEROS_4};
+
+/// `BodyController`'s vectors whose names end in `_out` and `_out_fric_comp`: body in m/s and rad/s (accelerations per
+/// second), wheels in rad/s and Nm.
+#[derive(Clone, Copy)]
+pub struct Outputs {
+    pub body_twist_out: Vector3f,
+    pub body_accel_out: Vector3f,
+    pub body_accel_out_fric_comp: Vector3f,
+    pub wheel_vel_out: Vector4f,
+    pub wheel_torque_out: Vector4f,
+}
+
+/// The outputs of a new or reset controller. A constant, since a derived `Default` would be a call.
+pub const NO_OUTPUTS: Outputs = Outputs {
+    body_twist_out: ZEROS_3,
+    body_accel_out: ZEROS_3,
+    body_accel_out_fric_comp: ZEROS_3,
+    wheel_vel_out: ZEROS_4,
+    wheel_torque_out: ZEROS_4,
+};
