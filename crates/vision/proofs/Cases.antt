@@ -46,7 +46,7 @@ sixty_four_33 = (since_taken_lem 64 33 (lit≤ tt)).mark
 
 unfoldable pub tick : VisionGateState → Option Float → Judgement
 unfolding judged sighting_judged seeding_judged gathered fresh_seeding zeros2 zeros3 zeros6 steady deviation quiet tracking_judged distance radius hypotenuse hypot_of outweighs larger smaller root_of_squares scaled_root magnitude square_root root_of whole_root root_digits sticky seconds_of add sub mul div lt le eq is_nan of_int to_bits of_bits
-tick gate x = judged gate (option_map (λ (x : Float). record { x = x; y = zero_float; z = zero_float }) x) zeros6 (seconds_of 4)
+tick gate x = judged gate (option_map (λ (x : Float). record { x = x; y = zero_float; z = zero_float }) x) zeros6 (record { tick_length = 4 })
 
 -- a new gate that sees one place again and again: the judgement after m others
 unfoldable pub again : Float → ℕ → Judgement

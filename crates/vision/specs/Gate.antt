@@ -10,6 +10,8 @@ use Rattle.params.specs.Params.{vision_seed_samples, vision_gate_base_radius_m, 
 use Rattle.vision.specs.declared.seeding.Seeding.{Seeding}
 use Rattle.vision.specs.declared.gate.VisionGateState.{VisionGateState}
 use Rattle.vision.specs.declared.gate.VisionGateState.TheVariants as Gate
+use Rattle.tick.specs.declared.start.Start.{Start}
+use Rattle.tick.specs.Start.{dt_of}
 use Rattle.tick.specs.declared.action.GateAction.{GateAction}
 use Rattle.tick.specs.declared.action.GateAction.TheVariants.{NoVision, Accumulate, SeedComplete, SeedReset, Accept, AcceptJump, FirstReject, Reject}
 use Rattle.vision.specs.Seeding.{fresh_seeding, gathered, steady}
@@ -62,6 +64,6 @@ abbrev pub sighting_of : Bool → Vector3f → Option Vector3f
 sighting_of is_seen v = if is_seen then Some v else None
 
 -- a tick's answer and the gate after it
-unfoldable pub judged : VisionGateState → Option Vector3f → Vector6f → Float → Judgement
-judged g None p dt = record { action = NoVision; gate = quiet g dt }
-judged g (Some v) p dt = sighting_judged g v p dt
+unfoldable pub judged : VisionGateState → Option Vector3f → Vector6f → Start → Judgement
+judged g None p start = record { action = NoVision; gate = quiet g (dt_of start) }
+judged g (Some v) p start = sighting_judged g v p (dt_of start)

@@ -9,6 +9,8 @@ use Rattle.params.specs.Params.{vision_active_timeout_s, vision_clock_start_s}
 use Rattle.vision.specs.declared.gate.VisionGateState.TheVariants as Gate
 use Rattle.vision.specs.declared.Vision.{Vision}
 use Rattle.tick.specs.declared.action.GateAction.{GateAction}
+use Rattle.tick.specs.declared.start.Start.{Start}
+use Rattle.tick.specs.Start.{dt_of}
 use Rattle.tick.specs.Outcome.{takes}
 use Rattle.vision.specs.Seeding.{fresh_seeding}
 use Rattle.vision.specs.Gate.{judged}
@@ -31,10 +33,10 @@ pub record VisionAnswer : Type 0 where
   pub vision : Vision
 
 -- a tick: the gate judges, and the clock moves by whether it took the sighting
-unfoldable pub vision_after : Vision → Option Vector3f → Vector6f → Float → VisionAnswer
-vision_after v sighting predicted dt =
-    let j = judged v.gate sighting predicted dt in
+unfoldable pub vision_after : Vision → Option Vector3f → Vector6f → Start → VisionAnswer
+vision_after v sighting predicted start =
+    let j = judged v.gate sighting predicted start in
     record {
       action = j.action;
-      vision = record { gate = j.gate; time_since_vision_update_s = clock_after v.time_since_vision_update_s (takes j.action) dt };
+      vision = record { gate = j.gate; time_since_vision_update_s = clock_after v.time_since_vision_update_s (takes j.action) (dt_of start) };
     }

@@ -9,6 +9,7 @@ use ieee754::hypot::hypot;
 use linear::{Vector3f, Vector6f};
 use params::{VISION_GATE_BASE_RADIUS_M, VISION_GATE_EXPAND_RATE_M_PER_S, VISION_SEED_SAMPLES};
 use tick::action::GateAction;
+use tick::start::Start;
 
 /// Gathering sightings until their places are steady, or tracking.
 #[derive(Clone, Copy)]
@@ -24,8 +25,7 @@ impl VisionGateState {
     // A sighting for a gate that is seeding: the last one that a seeding needs ends it.
     #[tactic(auto, unfolding(crate::specs::Gate::seeding_judged))]
     fn seed(&mut self, mut seeding: Seeding, sighting: Vector3f) -> GateAction
-        ensures action { result ≡ (seeding_judged (gathered seeding sighting)).action }
-        ensures gate { self.new ≡ (seeding_judged (gathered seeding sighting)).gate }
+        ensures { let j = seeding_judged (gathered seeding sighting) in (result ≡ j.action) × (self.new ≡ j.gate) }
     {
         seeding.gather(sighting);
         if seeding.n < VISION_SEED_SAMPLES {
@@ -45,8 +45,7 @@ impl VisionGateState {
     // A sighting at this distance in metres, for a gate that is tracking since t.
     #[tactic(auto, unfolding(crate::specs::Gate::tracking_judged, crate::specs::Gate::radius))]
     fn track(&mut self, t: f32, dist: f32, dt: f32) -> GateAction
-        ensures action { result ≡ (tracking_judged t dist dt).action }
-        ensures gate { self.new ≡ (tracking_judged t dist dt).gate }
+        ensures { let j = tracking_judged t dist dt in (result ≡ j.action) × (self.new ≡ j.gate) }
     {
         let radius = VISION_GATE_BASE_RADIUS_M + VISION_GATE_EXPAND_RATE_M_PER_S * t;
         if dist < radius {
@@ -70,10 +69,15 @@ impl VisionGateState {
     /// The judgement of one tick, on the place in metres that was seen and the one predicted.
     /// Without a sighting the radius of a tracking gate grows on.
     #[tactic(auto, unfolding(crate::specs::Gate::judged, crate::specs::Gate::sighting_judged, crate::specs::Gate::quiet, crate::specs::Gate::distance))]
-    pub fn judge(&mut self, sighting: Option<Vector3f>, predicted: Vector6f, dt: f32) -> GateAction
-        ensures action { result ≡ (judged self.old sighting predicted dt).action }
-        ensures gate { self.new ≡ (judged self.old sighting predicted dt).gate }
+    pub fn judge(
+        &mut self,
+        sighting: Option<Vector3f>,
+        predicted: Vector6f,
+        start: Start,
+    ) -> GateAction
+        ensures { let j = judged self.old sighting predicted start in (result ≡ j.action) × (self.new ≡ j.gate) }
     {
+        let dt = start.tick_length.seconds();
         let Some(v) = sighting else {
             if let VisionGateState::Tracking {
                 time_since_last_valid_s,

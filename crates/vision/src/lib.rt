@@ -14,6 +14,7 @@ use crate::seeding::Seeding;
 use linear::{Vector3f, Vector6f};
 use params::{VISION_ACTIVE_TIMEOUT_S, VISION_CLOCK_START_S};
 use tick::action::GateAction;
+use tick::start::Start;
 
 #[derive(Clone, Copy)]
 pub struct Vision {
@@ -58,11 +59,16 @@ impl Vision {
 
     /// One tick: the gate judges, and the clock moves.
     #[tactic(auto, unfolding(crate::specs::Vision::vision_after))]
-    pub fn update(&mut self, sighting: Option<Vector3f>, predicted: Vector6f, dt: f32) -> GateAction
-        ensures action { result ≡ (vision_after self.old sighting predicted dt).action }
-        ensures vision { self.new ≡ (vision_after self.old sighting predicted dt).vision }
+    pub fn update(
+        &mut self,
+        sighting: Option<Vector3f>,
+        predicted: Vector6f,
+        start: Start,
+    ) -> GateAction
+        ensures { let a = vision_after self.old sighting predicted start in (result ≡ a.action) × (self.new ≡ a.vision) }
     {
-        let action = self.gate.judge(sighting, predicted, dt);
+        let dt = start.tick_length.seconds();
+        let action = self.gate.judge(sighting, predicted, start);
         self.time_since_vision_update_s = clock_after(
             self.time_since_vision_update_s,
             action.takes(),
