@@ -1,10 +1,8 @@
 -- What an outcome says of the gate after it: a taken sighting leaves the gate tracking at 0.0, any other tick lets a tracking gate's t grow,
--- NaN is never taken, and a seeding that is kept holds fewer than 20 sightings, so that its n never wraps.
+-- NaN is never taken, and a seeding that is kept holds fewer than 20 sightings.
 use mathlib.Core.Path.{◌≡◌, refl, sym, ap, ◌∙◌}
 use mathlib.Core.Logic.{◌⊎◌, inl, inr}
-use Prim.Native.Nat.{◌+◌, ◌≤◌, ◌<◌}
-use native.Mathlib.Nat.{mod-eq_of_lt}
-use native.Mathlib.Omega.{arith}
+use Prim.Native.Nat.{◌≤◌, ◌<◌}
 use mathlib.Core.Bool.{Bool, true, false, cond, ◌&&◌, true≢false}
 use borrow.Author.Tests.{ltb-true, le-ltb}
 use lib.Dec.{lit<, ltb}
@@ -14,7 +12,6 @@ use Rattle.params.specs.Params.{vision_seed_samples, vision_seed_pos_std_thresh_
 use Rattle.linear.specs.declared.Vector3f.{Vector3f}
 use Rattle.linear.specs.declared.Vector6f.{Vector6f}
 use Rattle.linear.specs.Vector.{zero_float}
-use Rattle.vision.specs.declared.seeding.Seeding.{Seeding}
 use Rattle.vision.specs.declared.gate.VisionGateState.{VisionGateState}
 use Rattle.vision.specs.declared.gate.VisionGateState.TheVariants as Gate
 use Rattle.tick.specs.declared.action.GateAction.TheVariants.{SeedReset, Accept, AcceptJump, FirstReject, Reject}
@@ -22,7 +19,7 @@ use Rattle.vision.specs.Gate.{Judgement}
 use Rattle.tick.specs.declared.start.Start.{Start}
 use Rattle.tick.specs.Start.{dt_of}
 use Rattle.tick.specs.Outcome.{takes}
-use Rattle.vision.specs.Seeding.{fresh_seeding, gathered, deviation_x, deviation_y, steady}
+use Rattle.vision.specs.Seeding.{Seeding, fresh_seeding, gathered, deviation_x, deviation_y, steady}
 use Rattle.vision.specs.Gate.{seeding_judged, distance, radius, tracking_judged, sighting_judged, quiet, judged}
 use Rattle.vision.specs.Laws.{Taken, Waiting, Seeded}
 
@@ -117,7 +114,7 @@ refused_seeds (Gate.Seeding s) None p start h e = tt
 refused_seeds (Gate.Seeding s) (Some v) p start h e =
     elim (seeding_either (gathered s v)) [ inl w ↦ rw w.1 tt | inr (inl w) ↦ clash (sym (ap (λ (j : Judgement). takes j.action) w) ∙ e) | inr (inr w) ↦ rw w tt ]
 
--- ---- n never wraps
+-- ---- a seeding stays small
 
 -- a seeding of fewer than 20 sightings, or a gate that is tracking
 abbrev pub Small : VisionGateState → Type 0
@@ -135,8 +132,3 @@ stays_small (Gate.Seeding s) None p start h = h
 stays_small (Gate.Tracking t) None p start h = tt
 stays_small (Gate.Seeding s) (Some v) p start h = elim (seeding_either (gathered s v)) [ inl w ↦ rw w.1 w.0 | inr (inl w) ↦ rw w tt | inr (inr w) ↦ rw w fresh_small ]
 stays_small (Gate.Tracking t) (Some v) p start h = elim (tracking_either t (distance v p) (dt_of start)) [ inl w ↦ rw w.1 tt | inr w ↦ rw w.1 tt ]
-
--- so n grows by one
-pub small_grows : (s : Seeding) (v : Vector3f) → Small (Gate.Seeding s) → (gathered s v).n ≡ s.n + 1
-unfolding gathered
-small_grows s v h = mod-eq_of_lt (omega arith)

@@ -7,14 +7,13 @@ use Rattle.linear.specs.declared.Vector3f.{Vector3f}
 use Rattle.linear.specs.declared.Vector6f.{Vector6f}
 use Rattle.linear.specs.Vector.{zero_float}
 use Rattle.params.specs.Params.{vision_seed_samples, vision_gate_base_radius_m, vision_gate_expand_rate_m_per_s}
-use Rattle.vision.specs.declared.seeding.Seeding.{Seeding}
 use Rattle.vision.specs.declared.gate.VisionGateState.{VisionGateState}
 use Rattle.vision.specs.declared.gate.VisionGateState.TheVariants as Gate
 use Rattle.tick.specs.declared.start.Start.{Start}
 use Rattle.tick.specs.Start.{dt_of}
 use Rattle.tick.specs.declared.action.GateAction.{GateAction}
 use Rattle.tick.specs.declared.action.GateAction.TheVariants.{NoVision, Accumulate, SeedComplete, SeedReset, Accept, AcceptJump, FirstReject, Reject}
-use Rattle.vision.specs.Seeding.{fresh_seeding, gathered, steady}
+use Rattle.vision.specs.Seeding.{Seeding, fresh_seeding, gathered, steady}
 
 -- what a tick answers, and the gate that it leaves
 pub record Judgement : Type 0 where

@@ -12,11 +12,10 @@ use Rattle.tick.specs.declared.start.Start.{Start}
 use Rattle.tick.specs.Start.{dt_of}
 use Rattle.tick.specs.declared.action.GateAction.TheVariants.{Accumulate, SeedComplete, SeedReset, FirstReject, Reject}
 use Rattle.tick.specs.Outcome.{takes}
-use Rattle.vision.specs.declared.seeding.Seeding.{Seeding}
 use Rattle.vision.specs.declared.gate.VisionGateState.{VisionGateState}
 use Rattle.vision.specs.declared.gate.VisionGateState.TheVariants as Gate
 use Rattle.vision.specs.declared.Vision.{Vision}
-use Rattle.vision.specs.Seeding.{fresh_seeding, deviation_x, deviation_y}
+use Rattle.vision.specs.Seeding.{Seeding, fresh_seeding, deviation_x, deviation_y}
 use Rattle.vision.specs.Gate.{Judgement, distance, radius, seeding_judged, tracking_judged, judged}
 use Rattle.vision.specs.Vision.{active, new_vision, vision_after}
 use Rattle.vision.specs.Since.{since_taken, clock_since}

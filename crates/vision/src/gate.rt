@@ -1,13 +1,12 @@
 //! The gate of `update_state_estimate` in control_context.rs: which sightings are taken (docs/RULES.md, 'The gate').
 
 ghost use Rattle.std.specs.Prelude.{◌≡◌};
-ghost use Rattle.vision.specs.Gate.{judged, seeding_judged, tracking_judged};
-ghost use Rattle.vision.specs.Seeding.{gathered};
+ghost use Rattle.vision.specs.Gate.{judged, tracking_judged};
 
 use crate::seeding::Seeding;
 use ieee754::hypot::hypot;
 use linear::{Vector3f, Vector6f};
-use params::{VISION_GATE_BASE_RADIUS_M, VISION_GATE_EXPAND_RATE_M_PER_S, VISION_SEED_SAMPLES};
+use params::{VISION_GATE_BASE_RADIUS_M, VISION_GATE_EXPAND_RATE_M_PER_S};
 use tick::action::GateAction;
 use tick::start::Start;
 
@@ -22,26 +21,6 @@ pub enum VisionGateState {
 }
 
 impl VisionGateState {
-    // A sighting for a gate that is seeding: the last one that a seeding needs ends it.
-    #[tactic(auto, unfolding(crate::specs::Gate::seeding_judged))]
-    fn seed(&mut self, mut seeding: Seeding, sighting: Vector3f) -> GateAction
-        ensures { let j = seeding_judged (gathered seeding sighting) in (result ≡ j.action) × (self.new ≡ j.gate) }
-    {
-        seeding.gather(sighting);
-        if seeding.n < VISION_SEED_SAMPLES {
-            *self = VisionGateState::Seeding(seeding);
-            return GateAction::Accumulate;
-        }
-        if seeding.is_steady() {
-            *self = VisionGateState::Tracking {
-                time_since_last_valid_s: 0.0,
-            };
-            return GateAction::SeedComplete;
-        }
-        *self = VisionGateState::Seeding(Seeding::fresh());
-        GateAction::SeedReset
-    }
-
     // A sighting at this distance in metres, for a gate that is tracking since t.
     #[tactic(auto, unfolding(crate::specs::Gate::tracking_judged, crate::specs::Gate::radius))]
     fn track(&mut self, t: f32, dist: f32, dt: f32) -> GateAction
@@ -68,7 +47,7 @@ impl VisionGateState {
 
     /// The judgement of one tick, on the place in metres that was seen and the one predicted.
     /// Without a sighting the radius of a tracking gate grows on.
-    #[tactic(auto, unfolding(crate::specs::Gate::judged, crate::specs::Gate::sighting_judged, crate::specs::Gate::quiet, crate::specs::Gate::distance))]
+    #[tactic(auto, unfolding(crate::specs::Gate::judged, crate::specs::Gate::sighting_judged, crate::specs::Gate::quiet, crate::specs::Gate::distance, crate::specs::Gate::seeding_judged, crate::specs::Seeding::kept_seeding))]
     pub fn judge(
         &mut self,
         sighting: Option<Vector3f>,
@@ -87,14 +66,23 @@ impl VisionGateState {
             }
             return GateAction::NoVision;
         };
-        match *self {
-            VisionGateState::Seeding(seeding) => self.seed(seeding, v),
+        match self {
+            VisionGateState::Seeding(seeding) => {
+                let action = seeding.gather(v);
+                if action == GateAction::SeedComplete {
+                    *self = VisionGateState::Tracking {
+                        time_since_last_valid_s: 0.0,
+                    };
+                }
+                action
+            }
             VisionGateState::Tracking {
                 time_since_last_valid_s,
             } => {
+                let t = *time_since_last_valid_s;
                 let x = v.x - predicted.pose.x;
                 let y = v.y - predicted.pose.y;
-                self.track(time_since_last_valid_s, hypot(x, y), dt)
+                self.track(t, hypot(x, y), dt)
             }
         }
     }
