@@ -130,7 +130,8 @@ impl ControlContext {
         next: Sample,
         wheel_vel_meas: Vector4f,
     ) -> ManeuverSetpoints
-        ensures { let t = steered self.old planned fresh next wheel_vel_meas in (result ≡ t.setpoints) × (self.new ≡ t.context) }
+        ensures { let t = steered self.old planned fresh next wheel_vel_meas in
+            (result ≡ t.setpoints) × (self.new ≡ t.context) }
     {
         let setpoints = self.run_traj_track(planned, fresh, next);
         self.update_tracking_divergence_recovery(wheel_vel_meas);

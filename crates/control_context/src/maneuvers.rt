@@ -39,7 +39,8 @@ impl PlanAnswer {
     }
 }
 
-/// The Rust's derived equality: the same kind, and the fields equal as floats. A NaN equals nothing, and -0.0 equals 0.0.
+/// The Rust's derived equality: the same kind, and the fields equal as floats. A NaN equals nothing, and -0.0
+/// equals 0.0.
 #[tactic(auto, unfolding(crate::specs::Equality::equal, crate::specs::Equality::fields_equal))]
 pub fn commands_equal(c: ManeuverCommand, o: ManeuverCommand) -> bool
     ensures { result ≡ equal c o }
@@ -59,7 +60,9 @@ impl ControlContext {
     // What modes 2 and 3 answer: without vision nothing is tracked.
     #[tactic(auto, unfolding(crate::specs::Plan::maneuver_answer))]
     fn maneuver_answer(&self, cmd: ManeuverCommand) -> PlanAnswer
-        ensures { result ≡ maneuver_answer self.now.memory (active self.now.vision.time_since_vision_update_s) cmd self.now.state_estimate }
+        ensures { result
+            ≡ maneuver_answer self.now.memory (active self.now.vision.time_since_vision_update_s) cmd
+            self.now.state_estimate }
     {
         if !self.vision.vision_active() {
             return PlanAnswer::NoVision;
@@ -76,7 +79,8 @@ impl ControlContext {
     // The one decision. A number that is no mode holds: callers refuse it first.
     #[tactic(auto, unfolding(crate::specs::Plan::decided, crate::specs::Plan::hold, crate::specs::Plan::in_mode))]
     fn plan_answer(&mut self, mode: u32, halt: bool, cmd: ManeuverCommand) -> PlanAnswer
-        ensures { let d = decision_on self.old mode halt cmd self.old.state_estimate in (result ≡ d.answer) × (self.new ≡ record self.old { memory = d.memory; prev_mode = d.prev_mode }) }
+        ensures { let d = decision_on self.old mode halt cmd self.old.state_estimate in
+            (result ≡ d.answer) × (self.new ≡ record self.old { memory = d.memory; prev_mode = d.prev_mode }) }
     {
         match mode {
             2..=3 if !(halt | self.divergence.recovering()) => {
@@ -103,7 +107,8 @@ impl ControlContext {
         cmd: ManeuverCommand,
         state_estimate: Vector6f,
     ) -> PlanAnswer
-        ensures value { let d = decided_on self.old mode halt cmd state_estimate in (result ≡ d.answer) × (self.new ≡ d.context) }
+        ensures value { let d = decided_on self.old mode halt cmd state_estimate in
+            (result ≡ d.answer) × (self.new ≡ d.context) }
         ensures number { answer_number result ≡ number_on self.old mode halt cmd }
     {
         self.state_estimate = state_estimate;

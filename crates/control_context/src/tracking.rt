@@ -82,7 +82,9 @@ impl ControlContext {
     /// part in them: POSE_ACCEL_MODE is feedback alone.
     #[tactic(auto, unfolding(crate::specs::Setpoints::tracking_setpoints))]
     pub fn calc_tracking_setpoints(&mut self, traj_state: Vector6f) -> ManeuverSetpoints
-        ensures { let t = tracking_setpoints self.old.pose_pid self.old.state_estimate traj_state (dt_of self.old.start) in (result ≡ t.setpoints) × (self.new ≡ record self.old { pose_pid = t.pid }) }
+        ensures { let c = self.old in
+            let t = tracking_setpoints c.pose_pid c.state_estimate traj_state (dt_of c.start) in
+            (result ≡ t.setpoints) × (self.new ≡ record c { pose_pid = t.pid }) }
     {
         let pose_estimate = self.state_estimate.pose;
         let traj_vel = traj_state.twist;

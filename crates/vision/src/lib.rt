@@ -65,7 +65,8 @@ impl Vision {
         predicted: Vector6f,
         start: Start,
     ) -> GateAction
-        ensures { let a = vision_after self.old sighting predicted start in (result ≡ a.action) × (self.new ≡ a.vision) }
+        ensures { let a = vision_after self.old sighting predicted start in
+            (result ≡ a.action) × (self.new ≡ a.vision) }
     {
         let dt = start.tick_length.seconds();
         let action = self.gate.judge(sighting, predicted, start);

@@ -80,7 +80,8 @@ impl Seeding {
     /// Gathers one sighting more. The last one that a seeding needs ends it, and leaves a fresh one.
     #[tactic(auto, unfolding(crate::specs::Gate::seeding_judged, crate::specs::Seeding::gathered, crate::specs::Seeding::kept_seeding, crate::specs::Seeding::steady))]
     pub fn gather(&mut self, sighting: Vector3f) -> GateAction
-        ensures { let s = gathered self.old sighting in (result ≡ (seeding_judged s).action) × (self.new ≡ kept_seeding s) }
+        ensures { let s = gathered self.old sighting in
+            (result ≡ (seeding_judged s).action) × (self.new ≡ kept_seeding s) }
     {
         self.n += 1;
         self.pos_sum.x += sighting.x;
