@@ -21,11 +21,11 @@ abbrev pub holds : ℕ → Bool → Bool → Bool
 holds mode halt recovering = halt || recovering || nat_lt mode 2 || not (is_mode mode)
 
 -- hold drops trajectory and previous command and sets the previous mode to off
-unfoldable pub hold : Decision
+abbrev pub hold : Decision
 hold = record { answer = Hold; memory = empty_memory; prev_mode = 0 }
 
 -- else a changed mode drops both
-unfoldable pub in_mode : Memory → ℕ → ℕ → Memory
+abbrev pub in_mode : Memory → ℕ → ℕ → Memory
 in_mode m mode prev = if mode == prev then m else empty_memory
 
 -- plan anew if none is held or the command changed
@@ -38,7 +38,7 @@ seed_of None estimate = estimate
 seed_of (Some s) estimate = s.state
 
 -- modes 2 and 3: no vision without active vision, otherwise a new plan or keep
-unfoldable pub maneuver_answer : Memory → Bool → ManeuverCommand → Vector6f → PlanAnswer
+abbrev pub maneuver_answer : Memory → Bool → ManeuverCommand → Vector6f → PlanAnswer
 maneuver_answer m vision cmd estimate =
     if vision then (if plans_anew m cmd then NewPlan (seed_of m.held estimate) else Keep)
     else NoVision
