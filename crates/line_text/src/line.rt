@@ -73,8 +73,8 @@ fn put_refused(r: RefusedLine, out: &mut [u8; LINE]) -> usize
 {
     let at = put_decimal(out, 0, r.number);
     let at = put(out, at, b" !");
-    let at = put_number(out, at, r.refusal.number() as u32);
-    put(out, at, b"\n")
+    let end = put_number(out, at, r.refusal.number() as u32);
+    put(out, end, b"\n")
 }
 
 // The outcome's letter, and the two marks, each behind a space.

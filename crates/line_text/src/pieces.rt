@@ -46,8 +46,9 @@ fn put_hex(out: &mut [u8; LINE], at: usize, x: f32) -> usize
     ensures puts { Puts out.old at (hex x) out.new result }
     ensures end { result ≡ at + 8 }
 {
-    let _ = hex::encode_to_slice(to_bits(x).to_be_bytes(), &mut out[at..at + 8]);
-    at + 8
+    let end = at + 8;
+    let _ = hex::encode_to_slice(to_bits(x).to_be_bytes(), &mut out[at..end]);
+    end
 }
 
 // A float, behind a space.
@@ -56,8 +57,8 @@ fn put_wheel(out: &mut [u8; LINE], at: usize, x: f32) -> usize
     ensures puts { Puts out.old at (field (hex x)) out.new result }
     ensures end { result ≡ at + 9 }
 {
-    let at = put(out, at, b" ");
-    put_hex(out, at, x)
+    let digits = put(out, at, b" ");
+    put_hex(out, digits, x)
 }
 
 // Four wheel speeds.

@@ -3,4 +3,4 @@ use Rattle.line_text.proofs.Putting.{and_then}
 use Rattle.line_text.proofs.pieces.put_wheel.Goals as goal
 
 pub returns-clause-puts : goal.returns-clause-puts
-returns-clause-puts c = and_then c.put-at.ensures.puts c.put_hex.ensures.puts
+returns-clause-puts c = and_then c.put-digits.ensures.puts c.put_hex.ensures.puts
