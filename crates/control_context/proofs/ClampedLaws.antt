@@ -1,22 +1,14 @@
 -- The clamps: every entry is within its bound or NaN, and without the mark it is equal to the one given. One law over the bounds serves twist and acceleration.
 -- Assumes nothing.
 use mathlib.Core.Path.{◌≡◌, refl}
-use mathlib.Core.Logic.{◌⊎◌}
 use mathlib.Core.Bool.{Bool, true, false, not, ◌&&◌, ◌||◌, true≢false}
 use lib.Dec.{T}
-use lib.Ieee.{Float, nan, lt, le, eq, ne, neg, of_bits}
+use lib.Ieee.{Float, lt, le, eq, ne, neg, of_bits}
 use Rattle.ieee754.proofs.ClampLaws.{clamp_within_within}
 use Rattle.linear.specs.declared.Vector3f.{Vector3f}
 use Rattle.params.specs.Params.{body_accel_clamp_linear, body_accel_clamp_angular, body_vel_clamp_linear, body_vel_clamp_angular}
 use Rattle.control_context.specs.Clamped.{clamped_to, twist_clamped, accel_clamped}
-
--- NaN, or between -bound and bound
-abbrev pub Bounded : Float → Float → Type 0
-Bounded bound x = (x ≡ nan) ⊎ (T (le (neg bound) x) × T (le x bound))
-
--- x and y within the one bound, the third entry within the other
-abbrev pub BoundedEntries : Float → Float → Vector3f → Type 0
-BoundedEntries linear angular v = Bounded linear v.x × (Bounded linear v.y × Bounded angular v.z)
+use Rattle.control_context.specs.TrackingLaws.{BoundedEntries, SameEntries}
 
 pub clamped_bounded : (linear angular : Float) (v : Vector3f) → T (le (neg linear) linear) → T (le (neg angular) angular) → BoundedEntries linear angular (clamped_to linear angular v).value
 unfolding clamped_to
@@ -45,10 +37,6 @@ all_true true true true e = (refl, (refl, refl))
 all_true true true false e = absurd (true≢false e)
 all_true true false r e = absurd (true≢false e)
 all_true false q r e = absurd (true≢false e)
-
--- entries are equal, as floats
-abbrev pub SameEntries : Vector3f → Vector3f → Type 0
-SameEntries u v = (eq u.x v.x ≡ true) × ((eq u.y v.y ≡ true) × (eq u.z v.z ≡ true))
 
 pub unmarked_same : (linear angular : Float) (v : Vector3f) → (clamped_to linear angular v).clamped ≡ false → SameEntries (clamped_to linear angular v).value v
 unfolding clamped_to ne

@@ -9,6 +9,7 @@ use lib.Ieee.{Float, nan, inf, fin, binary32, up, down, level, eq, is_nan, of_bi
 use Rattle.tick.specs.declared.command.ManeuverCommand.{ManeuverCommand}
 use Rattle.tick.specs.Command.{mode_of, fields_of}
 use Rattle.control_context.specs.Equality.{fields_equal, equal}
+use Rattle.control_context.specs.ManeuverLaws.{no_nan}
 
 -- ---- equality is symmetric
 
@@ -64,10 +65,6 @@ eq_self (inf true) = refl
 eq_self (inf false) = refl
 eq_self (fin true m e) = rw (eq-eqb (m * up e * down e) (m * up e * down e) refl)
 eq_self (fin false m e) = rw (eq-eqb (m * up e * down e) (m * up e * down e) refl)
-
-abbrev pub no_nan : List Float → Bool
-no_nan [] = true
-no_nan (x ∷ xs) = not (is_nan x) && no_nan xs
 
 fields_self : (xs : List Float) → fields_equal xs xs ≡ no_nan xs
 unfolding fields_equal

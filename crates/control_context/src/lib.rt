@@ -12,8 +12,10 @@ pub mod friction; // friction.rt: the friction twist, local and gated
 pub mod limits; // limits.rt: the clamps of twist and acceleration
 pub mod recovery; // recovery.rt: the tracking error, and what recovery makes of it
 pub mod stop; // stop.rt: the stop state's speed
+pub mod tracking_laws; // tracking_laws.rt: what is proved of the clamps and of recovery
 pub mod tracking; // tracking.rt: Document 01, 'Steer': control_context.rs from the trajectory's sample to the setpoints. Recovery, the
 pub mod memory; // memory.rt: What plan and steer remember: the held sample and the previous command
+pub mod maneuver_laws; // maneuver_laws.rt: what is proved of both
 pub mod maneuvers; // maneuvers.rt: The tick's one decision over mode, halt, recovery and vision
 pub mod decision; // decision.rt: plan's work: the estimate and the decision
 pub mod state_estimate; // state_estimate.rt: sight's work: the gate judges

@@ -6,7 +6,8 @@ use mathlib.Core.List.{List, [], ◌∷◌, map}
 use lib.ListN.{get_or, length}
 use Rattle.controllers.specs.declared.pid.PidController.{PidController}
 use Rattle.controllers.specs.Axes.{Ask, answers, Call, reset, after, after_call, after_calls, Each}
-use Rattle.controllers.proofs.AxisLaws.{Bounded, after_bounded, Ordered, Inside, answer-inside}
+use Rattle.controllers.specs.PidLaws.{alone, Bounded, Ordered, Inside}
+use Rattle.controllers.proofs.AxisLaws.{after_bounded, answer-inside}
 
 -- ---- bounds
 
@@ -30,11 +31,6 @@ outputs_limited (a ∷ parts) [] h = tt
 outputs_limited (a ∷ parts) (c ∷ cs) h = (answer-inside a c h.0, outputs_limited parts cs h.1)
 
 -- ---- the axes do not touch each other
-
--- the parts of one axis, one after the other
-abbrev pub alone : List Call → PidController → PidController
-alone [] c = c
-alone (a ∷ parts) c = alone parts (after a c)
 
 call_length : (parts : List Call) (cs : List PidController) → length (after_call parts cs) ≡ length cs
 unfolding after_call

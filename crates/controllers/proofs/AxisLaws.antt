@@ -10,16 +10,9 @@ use Rattle.controllers.specs.declared.pid.PidController.{PidController}
 use Rattle.std.specs.Prelude.{Option, None, Some}
 use Rattle.controllers.specs.Axis.{anti_jitter, limited, integrated, response, calculated, calculated_with_derivative, new_controller, reset_of}
 use Rattle.controllers.specs.Axes.{Ask, answer, calculate, calculate_with_derivative, Call, ask, reset, after}
+use Rattle.controllers.specs.PidLaws.{Bounded, Ordered, Inside}
 
 -- ---- the integrated error
-
--- the bounds of the integrated error enclose zero, and enclose it
-pub record Bounded (c : PidController) : Type 0 where
-  pub below : T (le c.gain.ki_err_min zero_float)
-  pub above : T (le zero_float c.gain.ki_err_max)
-  pub ordered : T (le c.gain.ki_err_min c.gain.ki_err_max)
-  pub least : T (le c.gain.ki_err_min c.integrated_error)
-  pub most : T (le c.integrated_error c.gain.ki_err_max)
 
 integrated-between : (c : PidController) (e dt : Float) → T (le c.gain.ki_err_min c.gain.ki_err_max) → T (le c.gain.ki_err_min (integrated c e dt)) × T (le (integrated c e dt) c.gain.ki_err_max)
 unfolding integrated
@@ -45,15 +38,6 @@ reset_new c = refl
 
 -- ---- the output
 
--- the limits are in order, and an output is within them, where there are any
-abbrev pub Ordered : Option (Float × Float) → Type 0
-Ordered None = Unit {0}
-Ordered (Some w) = T (le w.0 w.1)
-
-abbrev pub Inside : Option (Float × Float) → Float → Type 0
-Inside None out = Unit {0}
-Inside (Some w) out = T (le w.0 out) × T (le out w.1)
-
 -- with limits, every output is within them
 limited-inside : (l : Option (Float × Float)) (out : Float) → Ordered l → Inside l (limited l out)
 unfolding limited
@@ -66,9 +50,9 @@ answer-inside (calculate s v dt) c h = limited-inside c.output_limits _ h
 answer-inside (calculate_with_derivative s v d dt) c h = limited-inside c.output_limits _ h
 
 -- and NaN gives the lower one
-pub limited-nan : (lo hi : Float) → limited (Some (lo, hi)) nan ≡ lo
+pub limited_nan : (lo hi : Float) → limited (Some (lo, hi)) nan ≡ lo
 unfolding limited
-limited-nan lo hi = clamp_nan lo hi
+limited_nan lo hi = clamp_nan lo hi
 
 -- below a threshold above zero the output is scaled by |error| / threshold
 pub anti_jitter_below : (t out err : Float) → lt zero_float t ≡ true → lt (magnitude err) t ≡ true → anti_jitter (Some t) out err ≡ div binary32 (mul binary32 out (magnitude err)) t

@@ -2,6 +2,7 @@
 pub mod Axis
 pub mod Axes
 pub mod PidAxes
+pub mod PidLaws
 pub mod Brake
 pub mod Wheel
 pub mod FirstOrderLag

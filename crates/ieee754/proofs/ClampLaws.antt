@@ -18,11 +18,11 @@ clamp_nan (inf s) hi = refl
 clamp_nan (fin s m e) hi = refl
 
 -- f32's clamp keeps NaN
-pub clamp_within-nan : (bound : Float) → clamp_within nan bound ≡ nan
+pub clamp_within_nan : (bound : Float) → clamp_within nan bound ≡ nan
 unfolding clamp_within lt neg
-clamp_within-nan nan = refl
-clamp_within-nan (inf s) = refl
-clamp_within-nan (fin s m e) = refl
+clamp_within_nan nan = refl
+clamp_within_nan (inf s) = refl
+clamp_within_nan (fin s m e) = refl
 
 -- ---- the answer lies between the bounds, where these are in order
 
@@ -120,6 +120,6 @@ number_within v bound n h = go (lt v (neg bound)) (lt bound (cond (lt v (neg bou
 -- f32's clamp is NaN, or it lies between -bound and bound, where these are in order
 pub clamp_within_within : (v bound : Float) → T (le (neg bound) bound) → (clamp_within v bound ≡ nan) ⊎ (T (le (neg bound) (clamp_within v bound)) × T (le (clamp_within v bound) bound))
 unfolding is_nan
-clamp_within_within nan bound h = inl (clamp_within-nan bound)
+clamp_within_within nan bound h = inl (clamp_within_nan bound)
 clamp_within_within (inf s) bound h = inr (number_within (inf s) bound tt h)
 clamp_within_within (fin s m e) bound h = inr (number_within (fin s m e) bound tt h)

@@ -8,14 +8,11 @@ use lib.Ieee.{Float, Format, round}
 use lib.Ieee.Exact.{HasValue}
 use lib.Ieee.Nearest.{closest}
 use Rattle.ieee754.specs.Remainder.{least_rest}
+use Rattle.ieee754.specs.Laws.{Minus}
 use Rattle.ieee754.proofs.Closest.{Floor, Ceiling}
 use Rattle.ieee754.proofs.Fractions.{same_sub, same_le, same_lt}
 use Rattle.ieee754.proofs.Least.{least_rest_is}
 use Rattle.ieee754.proofs.Values.{rescale}
-
--- r is x - k / c for x = ±a / c, exactly: it has x's sign up to zero, zero included, and the other sign beyond
-abbrev pub Minus : Float → Bool → ℕ → ℕ → ℕ → Type 0
-Minus r s a k c = (k ≤ a → HasValue r s (a - k) c) × (a < k → HasValue r (not s) (k - a) c)
 
 -- it does not turn on which fractions x and the multiple are written as
 pub minus_same : (r : Float) (s : Bool) (a k c a' k' c' : ℕ) → 0 < c → 0 < c' → a' * c ≡ a * c' → k' * c ≡ k * c' → Minus r s a' k' c' → Minus r s a k c

@@ -4,6 +4,7 @@ use mathlib.Core.Path.{◌≡◌, refl, sym, ap, ◌∙◌, subst, subst₂}
 use mathlib.Core.Logic.{◌⊎◌, inl, inr, ⊎_elim}
 use Prim.Native.Nat.{ℕ, ◌-◌, ◌*◌, ◌%◌, ◌≤◌, ◌<◌}
 use native.Mathlib.Nat.{mul_assoc, mul_comm}
+use native.Mathlib.Omega.{arith}
 use mathlib.Core.Bool.{Bool, true, false, not}
 use lib.IntN.{ℤ}
 use lib.Dec.{T, leb, leb→le, nleb→lt}
@@ -15,17 +16,9 @@ use Rattle.ieee754.proofs.Closest.{closest_near, closest_even}
 use Rattle.ieee754.proofs.Fractions.{same_mul, same_cross, same_rest}
 use Rattle.ieee754.proofs.Grid.{placed, over, over-pos, both_pos, rest_exact, gap_exact}
 use Rattle.ieee754.proofs.Least.{rem_is, remainder_is}
-use Rattle.ieee754.proofs.Minus.{Minus, minus_same, minus_least}
-use Rattle.ieee754.proofs.Values.{over_value, other_value, pos_of_value, rescale, same_size}
-
--- x and y are values of the format f. x is a / c, negative where s is true, and y is b / c, negative where t is true. y is not zero.
-pub record Operands (f : Format) (x y : Float) (s t : Bool) (a b c : ℕ) : Type 0 where
-  pub x_fits : T (fits f x)
-  pub y_fits : T (fits f y)
-  pub x_value : HasValue x s a c
-  pub y_value : HasValue y t b c
-  pub y_not_zero : 0 < b
-  pub c_not_zero : 0 < c
+use Rattle.ieee754.specs.Laws.{Operands, Minus}
+use Rattle.ieee754.proofs.Minus.{minus_same, minus_least}
+use Rattle.ieee754.proofs.Values.{over_value, other_value, pos_of_value, rescale, same_size, same_sign}
 
 -- any two finite values of a format are such operands, where the second is not zero
 pub operands : {f : Format} {s t : Bool} {m n : ℕ} {e d : ℤ} → T (fits f (fin s m e)) → T (fits f (fin t n d)) → 0 < n → Operands f (fin s m e) (fin t n d) s t (over m e d) (over n d e) (down e * down d)
@@ -97,3 +90,17 @@ remainder_small {a} {b} g u r h =
 pub remainder_even : {f : Format} {x y : Float} {s t : Bool} {a b c : ℕ} → Operands f x y s t a b c → (u : Bool) (r : ℕ) → HasValue (remainder_by f x y) u r c → r * 2 ≡ b → closest a b % 2 ≡ 0
 remainder_even {a} {b} g u r h k =
     closest_even a b g.y_not_zero (⊎_elim (λ e. inl (rw e at k)) (λ e. inr (rw e at k)) (remainder_size g u r h))
+
+-- where it is zero, it has x's sign
+pub remainder_zero_sign : {f : Format} {x y : Float} {s t : Bool} {a b c : ℕ} → Operands f x y s t a b c → (u : Bool) → HasValue (remainder_by f x y) u 0 c → u ≡ s
+remainder_zero_sign {f} {x} {y} {s} {t} {a} {b} {c} g u h = go (leb (closest a b * b) a) (leb→le (closest a b * b) a) (nleb→lt (closest a b * b) a)
+  where
+    v : Minus (remainder_by f x y) s a (closest a b * b) c
+    v = remainder_exact g
+
+    go : (l : Bool) → (T l → closest a b * b ≤ a) → (T (not l) → a < closest a b * b) → u ≡ s
+    go true k m = same_sign (remainder_by f x y) u s 0 (a - closest a b * b) c h (v.0 (k tt))
+    go false k m =
+        let none : 0 ≡ closest a b * b - a = same_size (remainder_by f x y) u (not s) 0 (closest a b * b - a) c h (v.1 (m tt)) in
+        let beyond : a < closest a b * b = m tt in
+        absurd (omega (arith, none, beyond))

@@ -8,20 +8,11 @@ use lib.Ieee.Exact.{HasValue, units_val}
 use lib.Ieee.Positive.{num, den, positive, value→cross}
 use lib.Ieee.Bits.{of_bits-to_bits}
 use Rattle.ieee754.specs.Root.{whole_root, square_root}
+use Rattle.ieee754.specs.Laws.{NearestRoot}
 use Rattle.ieee754.proofs.Whole.{root_lt, whole_root_lem}
 use Rattle.ieee754.proofs.Rounded.{root_brackets}
 use Rattle.ieee754.proofs.Patterns.{low_value, high_value}
 use Rattle.ieee754.proofs.Positive.{root_of_value, word_range}
-
--- r is the root of x to the nearest. Both points are doubled, so that nothing is halved.
-pub record NearestRoot (x r : Float) : Type 0 where
-  pub u : ℕ
-  pub k : ℕ
-  pub value : HasValue r false (u * 2 ^ k) (2 ^ 149)
-  pub least : 2 ^ 23 ≤ u
-  pub most : u ≤ 2 ^ 24
-  pub lower : (2 * (u * 2 ^ k) - 2 ^ k) * (2 * (u * 2 ^ k) - 2 ^ k) * den x ≤ 4 * (num x * 4 ^ 149)
-  pub upper : 4 * (num x * 4 ^ 149) ≤ (2 * (u * 2 ^ k) + 2 ^ k) * (2 * (u * 2 ^ k) + 2 ^ k) * den x
 
 -- ---- a float above zero in units of 2 ^ -149
 abbrev InUnits : Float → Type 0

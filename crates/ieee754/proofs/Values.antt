@@ -36,3 +36,9 @@ pub same_size : (x : Float) (s t : Bool) (a b c : ℕ) → HasValue x s a c → 
 same_size nan s t a b c v w = absurd v
 same_size (inf u) s t a b c v w = absurd v
 same_size (fin u m e) s t a b c v w = eq_of_mul-eq-mul_right (down e) (down_pos e) a b (sym v.1 ∙ w.1)
+
+-- and one sign
+pub same_sign : (x : Float) (s t : Bool) (a b c : ℕ) → HasValue x s a c → HasValue x t b c → s ≡ t
+same_sign nan s t a b c v w = absurd v
+same_sign (inf u) s t a b c v w = absurd v
+same_sign (fin u m e) s t a b c v w = sym v.0 ∙ w.0

@@ -4,3 +4,4 @@ pub mod Clamp
 pub mod Root
 pub mod Remainder
 pub mod Hypot
+pub mod Laws

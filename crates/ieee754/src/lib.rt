@@ -4,6 +4,7 @@
 pub mod bits; // bits.rt: a word's float, a float's word, and a float without its sign
 pub mod clamp; // clamp.rt: the two clamps, which differ at NaN
 pub mod hypot; // hypot.rt: document 01's stand-in for hypotf
+pub mod laws; // laws.rt: what is proved of them all
 pub mod remainder; // remainder.rt: the remainder by 2.0·PI
 pub mod root; // root.rt: the square root, by whole numbers
 pub mod table; // table.rt: the cubics of its first guess

@@ -2,3 +2,4 @@
 pub mod Vector
 pub mod Matrix
 pub mod Rotation
+pub mod Laws

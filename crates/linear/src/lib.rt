@@ -127,6 +127,7 @@ impl From<[f32; 6]> for Vector6f {
     }
 }
 
+pub mod laws; // laws.rt: what is proved of products and rotations
 pub mod matrix; // matrix.rt: matrices by rows, and their products with a vector
 pub mod rotation; // rotation.rt: a vector turned to global and to local axes
 pub mod vectors; // vectors.rt: sums, multiples and dot products

@@ -1,2 +1,2 @@
 -- Laws and lemmas.
-pub mod Decimals
+pub mod DecimalLaws

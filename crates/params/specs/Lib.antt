@@ -1,2 +1,3 @@
 -- Definitions that the contracts of `params` cite.
 pub mod Params
+pub mod Decimals

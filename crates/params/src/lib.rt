@@ -1,10 +1,11 @@
 // params/controller_params.rs: every constant that the tick, the brake and the encoder lag use,
 // under its Rust name and worked out in f32 in the Rust's order; at the end those of other files.
-// Types and constants alone, for many crates read this one; specs/ has the bits of each, and
+// Types and constants, for many crates read this one; specs/ has the bits of each, and
 // `param_values` ties it to them.
 #![tactic(auto)]
 
 pub mod values; // values.rt: Every constant of `params`, in that file's order. The contracts tie each to its bits in
+pub mod decimals; // decimals.rt: what is proved of the constants' decimals
 
 use linear::Vector3f;
 

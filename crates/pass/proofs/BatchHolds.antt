@@ -1,8 +1,9 @@
--- The pass theorem holds of the blocks and lines of every batch that begins a pass. Assumes nothing.
-use Prim.Native.Nat.{ℕ, zero, suc}
-use mathlib.Core.Path.{refl}
+-- The pass theorem holds of the blocks and lines of every batch that begins a pass.
+use Prim.Native.Nat.{ℕ, zero, suc, ◌/◌}
+use mathlib.Core.Path.{◌≡◌, refl}
 use mathlib.Core.Bool.{Bool, true, false, cond}
 use mathlib.Core.List.{List, [], ◌∷◌, reverse_aux}
+use lib.ListN.{length}
 use Rattle.line_text.specs.declared.Line.{Line}
 use Rattle.pass.specs.declared.driven.Pass.{Pass}
 use Rattle.pass.specs.declared.driven.Pass.TheVariants.{Empty}
@@ -10,8 +11,9 @@ use Rattle.pass.specs.Blocks.{driven}
 use Rattle.pass.specs.PlainPass.{Passed}
 use Rattle.pass.proofs.EveryPass.{every_pass}
 use Rattle.pass.specs.Driven.{is_refused}
-use Rattle.pass.specs.Batch.{first_block, behind_first, Batched, one_block, then, batch_of}
-use Rattle.pass.specs.BatchHolds.{BatchHolds}
+use Rattle.pass.specs.Batch.{first_block, behind_first, Batched, one_block, then, batch_of, batch_into, answer_of}
+use Rattle.pass.specs.declared.written.Written.{Written}
+use Rattle.pass.specs.BatchHolds.{PassHoldsOf, BatchHolds}
 
 -- a block and what follows it, where it was refused and where not
 passed_on : (p : Pass) (block : List ℕ) (rest : Batched) (bs : List (List ℕ)) (ls : List Line) → Passed bs ls p
@@ -40,3 +42,8 @@ passed (suc n) p (b ∷ bytes) bs ls m =
 
 pub batch_holds : BatchHolds
 batch_holds n bytes = every_pass _ _ _ (passed n Empty bytes [] [] (unfold Passed in refl))
+
+-- what `drive_batch` answers holds with it
+pub begins : (out : List ℕ) (p : Pass) (bytes : List ℕ) (w : Written) → w ≡ answer_of (batch_into out p bytes) → p ≡ Empty → PassHoldsOf (batch_into out p bytes) w.pass
+unfolding batch_into answer_of
+begins out p bytes w a e = rw (a, e) (batch_holds (length out / 128) bytes)

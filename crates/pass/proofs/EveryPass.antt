@@ -1,4 +1,4 @@
--- The lines of any list of blocks are the plain drive's, by demand 3 for the calls that the blocks make. Assumes nothing.
+-- The lines of any list of blocks are the plain drive's, as the calls that the blocks make follow it.
 use mathlib.Core.Path.{◌≡◌, refl, sym, ap, ◌∙◌}
 use Prim.Native.Nat.{ℕ}
 use mathlib.Core.Bool.{Bool, true, false, cond}
@@ -26,7 +26,7 @@ use Rattle.body_controller.specs.Finish.{finish_of}
 use Rattle.plain_drive.specs.Calls.{Call, sight, plan, steer, finish, Reply}
 use Rattle.plain_drive.specs.PlainDrive as Plain
 use Rattle.plain_drive.specs.EveryList.{sight_reply, plan_reply, steer_reply, finish_reply, Meets, Entry, Made, calls_of, replies_of, drive_of}
-use Rattle.plain_drive.proofs.EveryList.{demand3}
+use Rattle.plain_drive.proofs.EveryList.{follows_plain_drive}
 use Rattle.line_text.specs.declared.Line.{Line}
 use Rattle.tick_block.specs.declared.TickBlock.{TickBlock}
 use Rattle.tick_block.specs.Block as Blocks
@@ -64,11 +64,11 @@ module _ (k : ℕ) (calls : List Call) (c : BodyController) (b : Behind k calls 
 
   replied : reply ≡ reply_after k calls call
   unfolding after calls_of replies_of Plain.driven_replies
-  replied = head-eq_of_cons-eq (demand3 k (record { call = call; reply = reply } ∷ b.0) d after.2).replies ∙ ap (λ (cs : List Call). reply_after k cs call) b.1
+  replied = head-eq_of_cons-eq (follows_plain_drive k (record { call = call; reply = reply } ∷ b.0) d after.2).replies ∙ ap (λ (cs : List Call). reply_after k cs call) b.1
 
 -- the controller is where the plain drive is
 stands : (k : ℕ) (calls : List Call) (c : BodyController) → Behind k calls c → drive_of c ≡ Plain.driven k calls
-stands k calls c b = (demand3 k b.0 c b.2).state ∙ ap (λ (cs : List Call). Plain.driven k cs) b.1
+stands k calls c b = (follows_plain_drive k b.0 c b.2).state ∙ ap (λ (cs : List Call). Plain.driven k cs) b.1
 
 -- ---- the calls of a tick, the last first
 
@@ -170,7 +170,7 @@ first_agrees b = go (eqb b.number 0)
 -- a later block
 later_agrees : (k : ℕ) (calls : List Call) (c : BodyController) (b : TickBlock) → Behind k calls c → Agrees (driven_on (driver_of (Driving c) b) (Driving c) b) (plain_take (at k calls) b)
 unfolding driver_of
-later_agrees k calls c b m = rw (ap (eqb b.tick.k) (demand3 k m.0 c m.2).tick_length, ap (eqb b.number) (ticks_beside (Driving c) (at k calls) m)) (go (eqb b.tick.k k) (eqb b.number (plain_ticks (at k calls))))
+later_agrees k calls c b m = rw (ap (eqb b.tick.k) (follows_plain_drive k m.0 c m.2).tick_length, ap (eqb b.number) (ticks_beside (Driving c) (at k calls) m)) (go (eqb b.tick.k k) (eqb b.number (plain_ticks (at k calls))))
   where
     go : (same next : Bool)
         → Agrees (driven_on (result_and (cond same (cond next (Ok (tt {0})) (Err Why.Order)) (Err Why.OtherTickLength)) (Ok c)) (Driving c) b) (cond same (cond next (plain_tick k calls b.inputs) (refused_at 10 (at k calls))) (refused_at 9 (at k calls)))
@@ -208,7 +208,7 @@ stands_on : (p : Pass) (q : PlainPass) → Beside p q → StandsOn p q
 stands_on Empty none m = tt
 stands_on Empty (at k calls) m = absurd m
 stands_on (Driving c) none m = absurd m
-stands_on (Driving c) (at k calls) m = (m.0, m.1, demand3 k m.0 c m.2)
+stands_on (Driving c) (at k calls) m = (m.0, m.1, follows_plain_drive k m.0 c m.2)
 
 pub every_pass : EveryPass
 every_pass blocks lines q m =

@@ -1,5 +1,5 @@
 -- Laws and lemmas.
-pub mod Batches
-pub mod Going
 pub mod EveryPass
+pub mod Batches
 pub mod BatchHolds
+pub mod Going

@@ -1,5 +1,5 @@
 -- What is shown of batches: driven one after the other they are one run over all the bytes, and no byte is passed over. Proved in
--- proofs/Batches.antt. Assumes nothing.
+-- proofs/Batches.antt.
 use Rattle.std.specs.Prelude.{ℕ, ◌*◌, ◌≤◌, ◌≡◌, false, length, List, ◌++◌}
 use mathlib.Core.List.{flatten}
 use Rattle.pass.specs.declared.driven.Pass.{Pass}

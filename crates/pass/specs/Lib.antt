@@ -2,9 +2,9 @@
 pub mod Blocks
 pub mod Pass
 pub mod Tick
+pub mod PlainPass
 pub mod Written
 pub mod Batch
 pub mod BatchLaws
-pub mod Driven
-pub mod PlainPass
 pub mod BatchHolds
+pub mod Driven

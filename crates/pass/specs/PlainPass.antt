@@ -1,5 +1,5 @@
--- The plain drive on a pass: what the lines of blocks given one after the other must say, and demand 3 for the calls of those blocks. It is fed
--- the blocks alone. Assumes nothing.
+-- The plain drive on a pass: what the lines of blocks given one after the other must say, and what holds after the calls of those blocks. It is fed
+-- the blocks alone.
 use Rattle.std.specs.Prelude.{ℕ, ◌≡◌, Bool, true, false, cond, List, [], ◌∷◌, eqb, Result, Ok, Err}
 use Rattle.tick.specs.declared.refusal.Refusal.{Refusal}
 use Rattle.tick.specs.Refusal.{refusal_number}
@@ -146,7 +146,7 @@ unfoldable pub marks_of : List Line → List Mark
 marks_of [] = []
 marks_of (line ∷ lines) = mark_of line ∷ marks_of lines
 
--- the controller of a pass stands behind a list of calls, those of the blocks, and demand 3 holds of it
+-- the controller of a pass stands behind a list of calls, those of the blocks, and what holds after every list of calls holds of it
 abbrev pub StandsOn : Pass → PlainPass → Type 0
 StandsOn Empty none = Unit {0}
 StandsOn Empty (at k calls) = ⊥
@@ -159,7 +159,7 @@ pub record PassHolds (blocks : List (List ℕ)) (lines : List Line) (q : Pass) :
   -- the last line's numbers are its ticks and counts
   pub ticks : next_number q ≡ plain_ticks (plain_pass blocks)
   pub counts : count_list (counts_of q) ≡ plain_counts (plain_pass blocks)
-  -- so each V means what demand 3 says
+  -- so each V means what the cameras' clause of `Holds` says
   pub stands : StandsOn q (plain_pass blocks)
 
 abbrev pub EveryPass : Type 0

@@ -4,6 +4,8 @@ ghost use Rattle.std.specs.Prelude.{◌++◌, ◌≡◌, ◌≤◌, length, drop
 ghost use Rattle.line_text.specs.Puts.{Within};
 ghost use Rattle.pass.specs.Written.{written, block_text};
 ghost use Rattle.pass.specs.Batch.{text_of, batch_into, answer_of};
+ghost use Rattle.pass.specs.BatchHolds.{PassHoldsOf};
+ghost use Rattle.pass.specs.declared.driven.Pass.TheVariants.{Empty};
 
 use crate::blocks::drive;
 use crate::driven::Pass;
@@ -21,11 +23,13 @@ pub fn drive_block(pass: Pass, block: &[u8], buf: &mut [u8; 128]) -> Written
 }
 
 // Drives blocks of 512 bytes to their end or to the first refusal, as many as `out` has room for at
-// 128 bytes a line, and puts their text at the start of out; what stands behind it stays.
+// 128 bytes a line, and puts their text at the start of out; what stands behind it stays. Where the
+// batch begins a pass, the pass theorem holds of its blocks, its lines and the pass it leaves.
 pub fn drive_batch(pass: Pass, blocks: &[u8], out: &mut [u8]) -> Written
     ensures value { result ≡ answer_of (batch_into out.old pass blocks.now) }
     ensures out_after { out.new ≡ text_of (batch_into out.old pass blocks.now).lines ++ drop result.len out.old }
     ensures within { Within result.len out.new }
+    ensures begins { pass ≡ Empty → PassHoldsOf (batch_into out.old pass blocks.now) result.pass }
 {
     let room = out.len() / 128;
     let mut w = Written {

@@ -1,5 +1,5 @@
--- Demand 3 and its companions hold: the controller follows the plain drive call by call, and what is read off the list is what the plain
--- drive's gate, clock, ticks and counts are. Assumes nothing.
+-- The controller follows the plain drive call by call, and what is read off the list is what the plain
+-- drive's gate, clock, ticks and counts are.
 use mathlib.Core.Path.{◌≡◌, refl, sym, ap, ◌∙◌, subst}
 use Prim.Native.Nat.{ℕ, ◌+◌, ◌-◌, ◌*◌, ◌/◌, ◌≤◌, ◌<◌}
 use native.Mathlib.Nat.{le-div_iff_mul-le}
@@ -43,7 +43,7 @@ use Rattle.body_controller.specs.Steer.{steer_of}
 use Rattle.body_controller.specs.Finish.{finish_of}
 use Rattle.plain_drive.specs.Calls.{Call, sight, plan, steer, finish, reset, Reply, outcome, answer, accepted, refused, is_tick, took}
 use Rattle.plain_drive.specs.PlainDrive.{DriveState, start, step, driven, driven_replies, resets_after}
-use Rattle.plain_drive.specs.EveryList.{sight_reply, plan_reply, steer_reply, finish_reply, Meets, Entry, Made, calls_of, replies_of, ticks_in, since, holding, took_within, drive_of, total, gathered_in, AllWithin, Demand3, EveryListRuns, NothingWraps, ActiveMeansSeen}
+use Rattle.plain_drive.specs.EveryList.{sight_reply, plan_reply, steer_reply, finish_reply, Meets, Entry, Made, calls_of, replies_of, ticks_in, since, holding, took_within, drive_of, total, gathered_in, AllWithin, FollowsPlainDrive, EveryListRuns, NothingWraps, ActiveMeansSeen}
 use Rattle.plain_drive.proofs.Simulation.{Follows, sight_follows, plan_follows, steer_follows, finish_follows, reset_follows}
 use Rattle.plain_drive.proofs.Watched.{vision_of, Seen, Watched, drive_watched}
 
@@ -167,9 +167,9 @@ widened k h c f D t i l g r e seen near =
     rw (seen, f.tick)
     (held_widens k (since h) D c.context.vision f.most l g r (tracking-held k (since h) (holding k h) (drive_of c) t e (watched_of k h c f).vision) i.vision_pose_meas i.predicted_state near)
 
-pub demand3 : Demand3
+pub follows_plain_drive : FollowsPlainDrive
 unfolding drive_of
-demand3 k h c m =
+follows_plain_drive k h c m =
     let f = followed k h c m in
     let w = watched_of k h c f in
     record {
@@ -263,6 +263,6 @@ held_taken k (x ∷ h) n e l = one_more h (holding k h) (resets_after k (calls_o
 pub active_means_seen : ActiveMeansSeen
 active_means_seen k h c m e =
     let f = followed k h c m in
-    let marks = both (holding k h) (leb (since h * k) 2048) (sym (demand3 k h c m).cameras ∙ e) in
+    let marks = both (holding k h) (leb (since h * k) 2048) (sym (follows_plain_drive k h c m).cameras ∙ e) in
     let few : since h ≤ 2048 / k = (le-div_iff_mul-le f.least).1 (leb-true (since h * k) 2048 marks.1) in
     held_taken k h (2048 / k + 1) marks.0 (omega (arith, few))

@@ -1,5 +1,5 @@
--- Demand 3: what holds after every list of the calls sight, plan, steer, finish and reset from a new controller, refused ones included. The
--- numbers are read off the list and its answers. `proofs/EveryList.antt` proves it. Assumes nothing.
+-- What holds after every list of the calls sight, plan, steer, finish and reset from a new controller, refused ones included. The
+-- numbers are read off the list and its answers. The contract of `every_list_of_calls` names the statements.
 use Rattle.std.specs.Prelude.{ℕ, ◌+◌, ◌-◌, ◌*◌, ◌/◌, ◌≤◌, ◌≡◌, Bool, true, false, cond, not, ◌&&◌, ◌||◌, List, [], ◌∷◌, T, leb, pos, Float, Result, Ok, Err}
 use Rattle.std.specs.Float.{binary32}
 use Rattle.std.specs.Float.Ieee.{le, of_int}
@@ -79,7 +79,7 @@ unfoldable pub ticks_in : List Entry → ℕ
 ticks_in [] = 0
 ticks_in (e ∷ h) = cond (is_tick e.reply) (ticks_in h + 1) (ticks_in h)
 
--- document 01's m: the ticks after the last that answered C, T or J; no reset alters it
+-- m: the ticks after the last that answered C, T or J; no reset alters it
 unfoldable pub since : List Entry → ℕ
 since [] = 0
 since (e ∷ h) = cond (took e.reply) 0 (cond (is_tick e.reply) (since h + 1) (since h))
@@ -136,7 +136,7 @@ abbrev pub AllWithin : ℕ → List ℕ → Type 0
 AllWithin n [] = Unit {0}
 AllWithin n (x ∷ xs) = (x ≤ n) × AllWithin n xs
 
--- ---- demand 3
+-- ---- the controller follows the plain drive
 
 pub record Holds (k : ℕ) (h : List Entry) (c : BodyController) : Type 0 where
   -- the tick length is k/4096 s still
@@ -164,8 +164,8 @@ pub record Holds (k : ℕ) (h : List Entry) (c : BodyController) : Type 0 where
       → is_tick reply ≡ true
       → took reply ≡ true
 
-abbrev pub Demand3 : Type 0
-Demand3 = (k : ℕ) (h : List Entry) (c : BodyController) → Made k h c → Holds k h c
+abbrev pub FollowsPlainDrive : Type 0
+FollowsPlainDrive = (k : ℕ) (h : List Entry) (c : BodyController) → Made k h c → Holds k h c
 
 -- ---- its companions
 

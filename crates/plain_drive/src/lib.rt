@@ -1,3 +1,5 @@
-// The plain drive and demand 3, over every list of the controller's calls: definitions in specs/,
-// the theorem in proofs/. No code.
+// The plain drive, and what holds after every list of the controller's calls: definitions in specs/,
+// proofs in proofs/.
 #![tactic(auto)]
+
+pub mod every_list; // every_list.rt: the theorem, in a contract

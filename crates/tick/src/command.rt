@@ -1,4 +1,5 @@
 // Commands and their words.
+
 ghost use Rattle.std.specs.Prelude.{◌≡◌};
 ghost use Rattle.tick.specs.Refusal.{number_of};
 ghost use Rattle.tick.specs.Command.{position_from, line_from, command_from, refusal_of};

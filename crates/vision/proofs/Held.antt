@@ -1,36 +1,26 @@
 -- Gate and clock together, tick by tick: m ticks of k/4096 s after the last taken sighting, with no reset since, t and the vision clock are
 -- the sums that the laws of the radius and of the active mark speak of; after a reset the clock stands until a sighting is taken.
 -- Assumes nothing.
-use mathlib.Core.Path.{◌≡◌, ap, ◌∙◌}
+use mathlib.Core.Path.{◌≡◌, refl, ap, ◌∙◌}
 use Prim.Native.Nat.{ℕ, suc, ◌*◌, ◌≤◌}
 use mathlib.Core.Bool.{Bool, true, false}
 use lib.Dec.{T, leb}
 use lib.IntN.{pos}
 use lib.Ieee.{binary32, le, of_int}
 use Rattle.std.specs.Prelude.{Option, Some}
-use Rattle.params.specs.Params.{vision_clock_start_s}
 use Rattle.linear.specs.declared.Vector3f.{Vector3f}
 use Rattle.linear.specs.declared.Vector6f.{Vector6f}
 use Rattle.linear.specs.Vector.{zero_float}
 use Rattle.tick.specs.TickLength.{seconds_of}
-use Rattle.vision.specs.declared.gate.VisionGateState.TheVariants.{Tracking}
 use Rattle.vision.specs.declared.Vision.{Vision}
 use Rattle.tick.specs.Outcome.{takes}
 use Rattle.vision.specs.Gate.{distance}
-use Rattle.vision.specs.Vision.{active, clock_after, vision_after}
+use Rattle.vision.specs.Vision.{active, clock_after, new_vision, vision_after}
 use Rattle.vision.specs.Since.{since_taken, clock_since}
 use Rattle.vision.proofs.Outcomes.{taken_restarts, refused_waits}
 use Rattle.vision.proofs.Clock.{since_taken_lem, since_reset, reset_stands}
 use Rattle.vision.proofs.Radius.{widening_takes}
-
--- a sighting was taken m ticks of k/4096 s ago, none since, and no reset came
-pub record Held (k m : ℕ) (v : Vision) : Type 0 where
-  pub tracking : v.gate ≡ Tracking (since_taken (seconds_of k) m)
-  pub clock : v.time_since_vision_update_s ≡ clock_since zero_float (seconds_of k) m
-
--- no sighting was taken since the start or the last reset
-abbrev pub Unheld : Vision → Type 0
-Unheld v = v.time_since_vision_update_s ≡ vision_clock_start_s
+pub use Rattle.vision.specs.Laws.{Held, Unheld}
 
 module _ (v : Vision) (sighting : Option Vector3f) (predicted : Vector6f) (k : ℕ) where
   -- whether a tick takes the sighting, and the vision after it
@@ -53,6 +43,11 @@ module _ (v : Vision) (sighting : Option Vector3f) (predicted : Vector6f) (k : �
   pub unheld_waits : Unheld v → taking ≡ false → Unheld next
   unfolding vision_after clock_since
   unheld_waits h e = rw (e, h) (reset_stands (seconds_of k) 1)
+
+-- none is held at first
+pub new_unheld : Unheld new_vision
+unfolding new_vision
+new_unheld = refl
 
 -- the active mark
 pub held_active : (k m : ℕ) (v : Vision) → k ≤ 64 → Held k m v → active v.time_since_vision_update_s ≡ leb (m * k) 2048

@@ -12,12 +12,7 @@ use lib.Ieee.Exact.{HasValue}
 use lib.Ieee.Order.{round_mono}
 use lib.Ieee.Scale.{round_same}
 use lib.Ieee.Positive.{positive, first_pos, positive_of_value, own_value, values_of_le, through, above, above_of_le}
-
--- x is at least n / c: positive infinity, or a number of that size
-abbrev pub AtLeast : Float → ℕ → ℕ → Type 0
-AtLeast nan n c = ⊥
-AtLeast (inf s) n c = s ≡ false
-AtLeast (fin s m e) n c = (s ≡ false) × (n * down e ≤ m * up e * c)
+use Rattle.vision.specs.Laws.{AtLeast}
 
 -- a value a / c is at least each smaller n / c
 pub value_least : (x : Float) (a n c : ℕ) → HasValue x false a c → n ≤ a → AtLeast x n c

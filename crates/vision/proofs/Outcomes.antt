@@ -17,20 +17,14 @@ use Rattle.linear.specs.Vector.{zero_float}
 use Rattle.vision.specs.declared.seeding.Seeding.{Seeding}
 use Rattle.vision.specs.declared.gate.VisionGateState.{VisionGateState}
 use Rattle.vision.specs.declared.gate.VisionGateState.TheVariants as Gate
-use Rattle.tick.specs.declared.action.GateAction.TheVariants.{Accumulate, SeedComplete, SeedReset, Accept, AcceptJump, FirstReject, Reject}
+use Rattle.tick.specs.declared.action.GateAction.TheVariants.{SeedReset, Accept, AcceptJump, FirstReject, Reject}
 use Rattle.vision.specs.declared.gate.Judgement.{Judgement}
 use Rattle.tick.specs.Outcome.{takes}
 use Rattle.vision.specs.Seeding.{fresh_seeding, gathered, deviation_x, deviation_y, steady}
 use Rattle.vision.specs.Gate.{seeding_judged, distance, radius, tracking_judged, sighting_judged, quiet, judged}
+use Rattle.vision.specs.Laws.{Taken, Waiting, Seeded}
 
 -- ---- tracking
-
--- a judgement that takes the sighting and tracks from 0.0, and one that takes nothing and tracks on from t
-abbrev pub Taken : Judgement → Type 0
-Taken j = (takes j.action ≡ true) × (j.gate ≡ Gate.Tracking zero_float)
-
-abbrev pub Waiting : Float → Float → Judgement → Type 0
-Waiting t dt j = (takes j.action ≡ false) × (j.gate ≡ Gate.Tracking (add binary32 t dt))
 
 -- strictly inside the radius
 pub inside_taken : (t d dt : Float) → lt d (radius t) ≡ true → Taken (tracking_judged t d dt)
@@ -64,13 +58,6 @@ tracking_either t d dt = go (lt d (radius t)) refl
     go false e = inr (outside_waits t d dt e)
 
 -- ---- seeding
-
--- below the 20th G, and from it on C or S
-abbrev pub Seeded : Seeding → Type 0
-Seeded s =
-    ((s.n < vision_seed_samples) × (seeding_judged s ≡ record { action = Accumulate; gate = Gate.Seeding s }))
-    ⊎ ((seeding_judged s ≡ record { action = SeedComplete; gate = Gate.Tracking zero_float })
-    ⊎ (seeding_judged s ≡ record { action = SeedReset; gate = Gate.Seeding fresh_seeding }))
 
 pub seeding_either : (s : Seeding) → Seeded s
 unfolding seeding_judged

@@ -21,7 +21,8 @@ use Rattle.tick.specs.Outcome.{takes}
 use Rattle.std.specs.Prelude.{Some}
 use Rattle.vision.specs.Gate.{distance, radius, tracking_judged, sighting_judged, judged}
 use Rattle.vision.specs.Since.{since_taken}
-use Rattle.vision.proofs.Least.{AtLeast, add_least, double_least, below_least, least_not_zero}
+use Rattle.vision.specs.Laws.{AtLeast}
+use Rattle.vision.proofs.Least.{add_least, double_least, below_least, least_not_zero}
 use Rattle.vision.proofs.Ticks.{exact_at, sum_reaches}
 use Rattle.vision.proofs.Outcomes.{inside_taken}
 

@@ -13,7 +13,8 @@ use lib.Ieee.Exact.{HasValue, round_exact}
 use Rattle.tick.specs.TickLength.{seconds_of}
 use Rattle.tick.proofs.TickLengthExact.{seconds_exact}
 use Rattle.vision.specs.Since.{since_taken}
-use Rattle.vision.proofs.Least.{AtLeast, value_least, add_values, add_least}
+use Rattle.vision.specs.Laws.{AtLeast}
+use Rattle.vision.proofs.Least.{value_least, add_values, add_least}
 
 -- n / 4096 is a value of the format up to n = 2 ^ 24
 pub exact_at : (n : ℕ) → n ≤ 2 ^ 24 → HasValue (round binary32 false n 4096) false n 4096

@@ -3,3 +3,4 @@ pub mod Vision
 pub mod Since
 pub mod Seeding
 pub mod Gate
+pub mod Laws

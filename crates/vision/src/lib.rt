@@ -2,6 +2,7 @@
 #![tactic(auto)]
 
 pub mod gate; // gate.rt: which sightings are taken
+pub mod laws; // laws.rt: what is proved of gate and clock over ticks
 pub mod seeding; // seeding.rt: what a seeding gathers
 
 ghost use Rattle.std.specs.Prelude.{◌≡◌};

@@ -8,10 +8,7 @@ use Rattle.linear.specs.declared.rotation.Rotation.{Rotation}
 use Rattle.linear.specs.Vector.{zero_float, one_float, vector3_of, dot_of, add_products}
 use Rattle.linear.specs.Matrix.{product_of}
 use Rattle.linear.specs.Rotation.{z_rotation, to_global, to_local}
-
--- by the opposite angle
-abbrev pub opposite : Rotation → Rotation
-opposite r = record { cos = r.cos; sin = neg r.sin }
+use Rattle.linear.specs.Laws.{opposite}
 
 -- to local is to global with s negated
 pub local_is_global : (r : Rotation) (v : Vector3f) → to_local r v ≡ to_global (opposite r) v

@@ -1,2 +1,0 @@
--- Definitions that the contracts of `cases` cite.
-pub mod Starred

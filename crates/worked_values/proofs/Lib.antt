@@ -1,0 +1,2 @@
+-- Laws and lemmas.
+pub mod WorkedValues

@@ -1,0 +1,2 @@
+-- Definitions that the contracts of `worked_values` cite.
+pub mod WorkedValues

@@ -1,0 +1,13 @@
+// Values of the rules, worked out: definitions in specs/, proofs in proofs/. No code, the clause is
+// what counts.
+#![tactic(auto)]
+
+ghost use Rattle.worked_values.specs.WorkedValues.{WorkedValues};
+
+/// The worked values hold of the definitions that the crates' contracts name: tick lengths accepted
+/// and refused, the encoder lag's steps, the ticks up to which the cameras are active, roots,
+/// remainders and hypotenuses, the fresh brake's current at every tick length, and clamped twists.
+#[tactic(auto, using(crate::proofs::WorkedValues::worked_values))]
+pub fn worked_values()
+    ensures all { WorkedValues }
+{}
