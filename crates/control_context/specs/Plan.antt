@@ -49,7 +49,7 @@ decided mode halt recovering vision cmd m prev estimate =
     else record { answer = maneuver_answer (in_mode m mode prev) vision cmd estimate; memory = in_mode m mode prev; prev_mode = mode }
 
 -- the number of plan's answer
-unfoldable pub number_decided : ℕ → Bool → Bool → Bool → ManeuverCommand → Memory → ℕ → ℕ
+abbrev pub number_decided : ℕ → Bool → Bool → Bool → ManeuverCommand → Memory → ℕ → ℕ
 number_decided mode halt recovering vision cmd m prev =
     if holds mode halt recovering then 0
     else if vision then (if plans_anew (in_mode m mode prev) cmd then 3 else 2)

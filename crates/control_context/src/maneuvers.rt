@@ -48,9 +48,9 @@ pub fn commands_equal(c: ManeuverCommand, o: ManeuverCommand) -> bool
     c == o
 }
 
-/// Whether the command is another than the previous one, or there was none.
+// Whether the command is another than the previous one, or there was none.
 #[tactic(auto, unfolding(crate::specs::Equality::fields_equal))]
-pub fn command_changed(prev_cmd: Option<ManeuverCommand>, cmd: ManeuverCommand) -> bool
+pub(crate) fn command_changed(prev_cmd: Option<ManeuverCommand>, cmd: ManeuverCommand) -> bool
     ensures { result ≡ command_changed prev_cmd cmd }
 {
     prev_cmd != Some(cmd)
@@ -98,7 +98,7 @@ impl ControlContext {
     }
 
     /// Sets the estimate, and decides on the command.
-    #[tactic(auto, unfolding(crate::specs::Decision::decided_on, crate::specs::Plan::number_decided, crate::specs::Plan::decided))]
+    #[tactic(auto, unfolding(crate::specs::Decision::decided_on, crate::specs::Plan::decided))]
     pub fn decide(
         &mut self,
         mode: u32,

@@ -82,9 +82,9 @@ impl ControlContext {
         }
     }
 
-    /// Judged on the sample that is held by now, and on the wheels' measured speeds in rad/s.
+    // Judged on the sample that is held by now, and on the wheels' measured speeds in rad/s.
     #[tactic(auto, unfolding(crate::specs::Recovery::recovery))]
-    pub fn update_tracking_divergence_recovery(&mut self, wheel_vel_meas: Vector4f)
+    pub(crate) fn update_tracking_divergence_recovery(&mut self, wheel_vel_meas: Vector4f)
         ensures { self.new ≡ recovered self.old wheel_vel_meas }
     {
         match self.divergence {

@@ -77,10 +77,10 @@ fn accel_setpoint(feedback: Vector3f) -> Vector3f
 }
 
 impl ControlContext {
-    /// The setpoints that lead from the estimate to a trajectory's state. The trajectory's acceleration has no
-    /// part in them: POSE_ACCEL_MODE is feedback alone.
+    // The setpoints that lead from the estimate to a trajectory's state. The trajectory's acceleration has no
+    // part in them: POSE_ACCEL_MODE is feedback alone.
     #[tactic(auto, unfolding(crate::specs::Setpoints::tracking_setpoints))]
-    pub fn calc_tracking_setpoints(&mut self, traj_state: Vector6f) -> ManeuverSetpoints
+    pub(crate) fn calc_tracking_setpoints(&mut self, traj_state: Vector6f) -> ManeuverSetpoints
         ensures { let c = self.old in
             let t = tracking_setpoints c.pose_pid c.state_estimate traj_state (dt_of c.start) in
             (result ≡ t.setpoints) × (self.new ≡ record c { pose_pid = t.pid }) }
