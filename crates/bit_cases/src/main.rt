@@ -37,7 +37,12 @@ fn turned(block: &[u8; BLOCK_BYTES], word: u8, bit: u8, fresh: bool) -> u8 {
 }
 
 // A word's line: a glyph for each of its bits, the lowest first.
-fn print_word(rt: &HostRuntime, block: &[u8; BLOCK_BYTES], word: u8, fresh: bool) -> io::Result<()> {
+fn print_word(
+    rt: &HostRuntime,
+    block: &[u8; BLOCK_BYTES],
+    word: u8,
+    fresh: bool,
+) -> io::Result<()> {
     let mut line = [b'\n'; 33];
     for (bit, glyph) in (0..32).zip(&mut line) {
         *glyph = turned(block, word, bit, fresh);
@@ -46,7 +51,12 @@ fn print_word(rt: &HostRuntime, block: &[u8; BLOCK_BYTES], word: u8, fresh: bool
 }
 
 // A line for each of the first words.
-fn print_words(rt: &HostRuntime, block: &[u8; BLOCK_BYTES], words: u8, fresh: bool) -> io::Result<()> {
+fn print_words(
+    rt: &HostRuntime,
+    block: &[u8; BLOCK_BYTES],
+    words: u8,
+    fresh: bool,
+) -> io::Result<()> {
     for word in 0..words {
         print_word(rt, block, word, fresh)?;
     }

@@ -1,12 +1,9 @@
-// nalgebra's vectors, their zeros, and arrays of their entries. Nearly every crate reads this one;
-// `linear::vectors` has the operations.
-// nalgebra's part: operations on vectors, matrices by rows, rotation. Every step is rounded to f32.
+//! The firmware's part of nalgebra: vectors, matrices by rows, rotation. Every step is rounded to f32.
 #![tactic(auto)]
 
 ghost use Rattle.std.specs.Prelude.{◌≡◌};
 ghost use Rattle.linear.specs.Vector.{entries2, entries3, entries4, vector2_of, vector3_of, vector4_of, vector6_of};
 
-// No one type, zero or `From` over the length: document 01 has nalgebra's vectors as structs of floats.
 #[derive(Clone, Copy, PartialEq)]
 pub struct Vector2f {
     pub x: f32,
@@ -28,7 +25,7 @@ pub struct Vector4f {
     pub w: f32,
 }
 
-// Document 01's six of state: x, y and heading, and their velocities.
+/// A state: x, y and heading, and their velocities.
 #[derive(Clone, Copy, PartialEq)]
 pub struct Vector6f {
     pub pose: Vector3f,

@@ -1,7 +1,8 @@
 //! What the four calls of a tick take, read from a tick block.
 
 ghost use Rattle.std.specs.Prelude.{◌≡◌, ◌+◌, ◌*◌, ◌≤◌};
-ghost use Rattle.tick_block.specs.Inputs.{first_words, command_words, matrix_at, sample_at, sight_input, plan_input, steer_input, finish_input, tick_input};
+ghost use Rattle.tick_block.specs.Inputs.{first_words, command_words, matrix_at, sample_at};
+ghost use Rattle.tick_block.specs.Inputs.{sight_input, plan_input, steer_input, finish_input, tick_input};
 
 use crate::flags::Flag;
 use crate::floats::{float_at, floats_at};
