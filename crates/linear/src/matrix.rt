@@ -11,10 +11,13 @@ pub struct Matrix<const R: usize, const C: usize> {
     pub rows: [[f32; C]; R],
 }
 
+/// Three rows of three.
 pub type Matrix3 = Matrix<3, 3>;
 
+/// Three rows of four.
 pub type Matrix3x4 = Matrix<3, 4>;
 
+/// Four rows of three.
 pub type Matrix4x3 = Matrix<4, 3>;
 
 impl<const R: usize, const C: usize> Matrix<R, C> {

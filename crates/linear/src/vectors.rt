@@ -5,6 +5,7 @@ ghost use Rattle.linear.specs.Vector.{sum_of, difference_of, scaled, dot_of};
 
 use crate::Vector3f;
 
+/// The sum, entry by entry.
 #[tactic(auto, unfolding(crate::specs::Vector::sum_of))]
 pub fn add(v: Vector3f, o: Vector3f) -> Vector3f
     ensures { result ≡ sum_of v o }
@@ -16,6 +17,7 @@ pub fn add(v: Vector3f, o: Vector3f) -> Vector3f
     }
 }
 
+/// v less o, entry by entry.
 #[tactic(auto, unfolding(crate::specs::Vector::difference_of))]
 pub fn sub(v: Vector3f, o: Vector3f) -> Vector3f
     ensures { result ≡ difference_of v o }
