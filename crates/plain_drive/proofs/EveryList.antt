@@ -23,11 +23,9 @@ use Rattle.tick.proofs.TickLengthExact.{bounds_tick_length}
 use Rattle.vision.specs.declared.gate.VisionGateState.{VisionGateState}
 use Rattle.vision.specs.declared.gate.VisionGateState.TheVariants.{Seeding, Tracking}
 use Rattle.vision.specs.Gate.{sighting_of, distance}
-use Rattle.vision.specs.Vision.{active, new_vision}
+use Rattle.vision.specs.Vision.{active}
 use Rattle.vision.proofs.Outcomes.{Small}
 use Rattle.vision.proofs.Held.{Held, held_active, unheld_inactive, held_widens}
-use Rattle.control_context.specs.Memory.{empty_memory}
-use Rattle.control_context.specs.Context as Context
 use Rattle.control_context.specs.StateEstimate as ContextSight
 use Rattle.body_controller.specs.declared.BodyController.{BodyController}
 use Rattle.body_controller.specs.declared.Called.{Called}
@@ -59,8 +57,8 @@ pub record Followed (start : Start) (h : List Entry) (c : BodyController) : Type
 
 begun : (start : Start) → Followed start [] (started start)
 begun start = record {
-  chosen = unfold started Context.new_context in refl;
-  state = unfold started Context.new_context drive_of driven calls_of new_drive new_vision empty_memory in refl;
+  chosen = unfold started in refl;
+  state = unfold started drive_of driven calls_of new_drive in refl;
   replies = unfold replies_of driven_replies calls_of in refl;
 }
 

@@ -11,7 +11,7 @@ use Rattle.tick.specs.declared.action.GateAction.{GateAction}
 use Rattle.tick.specs.declared.action.GateAction.TheVariants.{NoVision, Accumulate, SeedComplete, SeedReset, Accept, AcceptJump, FirstReject, Reject}
 use Rattle.tick.specs.Outcome.{overwrites, number_of}
 use Rattle.vision.specs.Gate.{sighting_of}
-use Rattle.vision.specs.Vision.{new_vision, vision_after}
+use Rattle.vision.specs.Vision.{vision_after}
 use Rattle.std.specs.Prelude.{None, Result, Ok, Err}
 use Rattle.tick.specs.declared.refusal.Refusal.{Refusal}
 use Rattle.tick.specs.declared.refusal.Refusal.TheVariants as Why
@@ -21,7 +21,7 @@ use Rattle.control_context.specs.declared.maneuvers.PlanAnswer.{PlanAnswer}
 use Rattle.control_context.specs.declared.maneuvers.PlanAnswer.TheVariants as Answers
 use Rattle.tick.specs.declared.command.ManeuverCommand.TheVariants as Cmd
 use Rattle.tick.specs.Command.{position_from, line_from, command_from}
-use Rattle.control_context.specs.Memory.{empty_memory, trajectory_dropped, after_tracking}
+use Rattle.control_context.specs.Memory.{empty_memory}
 use Rattle.control_context.specs.Recovery.{recovery}
 use Rattle.body_controller.specs.declared.BodyController.{BodyController}
 use Rattle.tick.specs.declared.tally.Counts.{Counts}
@@ -85,7 +85,6 @@ within c b e = e
 
 -- both memories are dropped together
 dropped : (b : Bool) (m : Memory) → ((cond b empty_memory m).held ≡ cond b None m.held) × ((cond b empty_memory m).prev_cmd ≡ cond b None m.prev_cmd)
-unfolding empty_memory
 dropped true m = (refl, refl)
 dropped false m = (refl, refl)
 
@@ -160,7 +159,7 @@ module _ (c : BodyController) (i : PlanInput) where
 -- ---- reset
 
 pub reset_follows : (c : BodyController) (start : Start) → Follows c (Plain.step start (drive_of c) reset) accepted (reset_of c)
-unfolding drive_of started reset_of Context.new_context new_vision empty_memory Plain.step Plain.on_reset
+unfolding drive_of started reset_of Plain.step Plain.on_reset
 reset_follows c _ = record { reply = refl; state = refl; start = refl }
 
 -- ---- steer
@@ -172,7 +171,7 @@ at_finish c context s = record c { context = context; turn = Turns.Finish s }
 -- recovery, with finish next
 recovered_follows : (c : BodyController) (d : ControlContext) (w : Vector4f) (s : Steered)
     → drive_of (at_finish c (Tracking.recovered d w) s) ≡ Plain.recovered (Tracking.recovery_of d w) (drive_of (at_finish c d s))
-unfolding drive_of Context.context_reset new_vision empty_memory Tracking.recovered
+unfolding drive_of
 recovered_follows c d w s = go (Tracking.recovery_of d w).reset refl
   where
     go : (b : Bool) → (Tracking.recovery_of d w).reset ≡ b → drive_of (at_finish c (Tracking.recovered d w) s) ≡ Plain.recovered (Tracking.recovery_of d w) (drive_of (at_finish c d s))
@@ -181,7 +180,6 @@ recovered_follows c d w s = go (Tracking.recovery_of d w).reset refl
 
 -- a reset keeps the start too
 recovered_start : (d : ControlContext) (w : Vector4f) → (Tracking.recovered d w).start ≡ d.start
-unfolding Context.context_reset Tracking.recovered
 recovered_start d w = go (Tracking.recovery_of d w).reset
   where
     go : (b : Bool) → (cond b (Context.context_reset d) (record d { divergence = (Tracking.recovery_of d w).state })).start ≡ d.start
@@ -194,14 +192,13 @@ module _ (c : BodyController) (p : Planned) (i : SteerInput) where
 
   -- tracking, with finish next
   tracked_follows : (a : PlanAnswer) (s : Steered) → drive_of (at_finish c (tracked a).context s) ≡ Plain.followed (drive_of c) a p.cmd i
-  unfolding drive_of after_tracking Tracking.tracked
+  unfolding drive_of
   tracked_follows Answers.Hold s = refl
   tracked_follows Answers.NoVision s = refl
   tracked_follows Answers.Keep s = refl
   tracked_follows (Answers.NewPlan seed) s = refl
 
   tracked_start : (a : PlanAnswer) → (tracked a).context.start ≡ c.context.start
-  unfolding Tracking.tracked
   tracked_start Answers.Hold = refl
   tracked_start Answers.NoVision = refl
   tracked_start Answers.Keep = refl
@@ -217,13 +214,13 @@ module _ (c : BodyController) (p : Planned) (i : SteerInput) where
   both_follow s = recovered_follows c (tracked p.answer).context i.wheel_vel_meas s ∙ ap recovered_in (tracked_follows p.answer s)
 
   steered_follows : Follows c (Plain.steered_by (drive_of c) p.answer p.cmd i) (steer_reply (Steer.steered c p i).answer) (Steer.steered c p i).controller
-  unfolding Steer.steered Tracking.steered Tracking.followed Plain.steered_by
+  unfolding Steer.steered Tracking.steered Plain.steered_by
   steered_follows = record { reply = refl; state = both_follow _; start = recovered_start (tracked p.answer).context i.wheel_vel_meas ∙ tracked_start p.answer }
 
   -- at steer's turn
   planned_follows : (b : Bool) → Steer.fails_at p i ≡ b
       → Follows c (Plain.on_steer (Plain.to_steer p.answer p.cmd) (drive_of c) i) (steer_reply (cond (Steer.fails_at p i) (Steer.planner_failed c) (Steer.steered c p i)).answer) (cond (Steer.fails_at p i) (Steer.planner_failed c) (Steer.steered c p i)).controller
-  unfolding drive_of trajectory_dropped Context.planner_failed Steer.planner_failed refused Plain.unplanned
+  unfolding drive_of Steer.planner_failed refused Plain.unplanned
   planned_follows true e = rw e (record { reply = refl; state = refl; start = refl })
   planned_follows false e = rw e steered_follows
 
