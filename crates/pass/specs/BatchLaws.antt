@@ -2,7 +2,7 @@
 -- proofs/Batches.antt.
 use Rattle.std.specs.Prelude.{ℕ, ◌*◌, ◌≤◌, ◌≡◌, false, length, List, ◌++◌}
 use mathlib.Core.List.{flatten}
-use Rattle.pass.specs.declared.driven.Pass.{Pass}
+use Rattle.pass.specs.declared.pass.Pass.{Pass}
 use Rattle.pass.specs.Batch.{then, batch_of, whole_of, text_of}
 
 -- a batch with room for all of the bytes' blocks drives all of them
