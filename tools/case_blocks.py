@@ -8,9 +8,9 @@
   python3 tools/case_blocks.py --answers > crates/bit_cases/stdout
 
 crates/cases/stdout is what `ticks` prints for each pass, then the two lines of the tick limit. The passes:
-document 01's own block, each refusal alone, every two at once in the order of trial, every spare word and
-flag, and the mistakes that document 01 says lie close. The answers are worked out here from document 01's
-table of refusals, apart from the port and from the oracle.
+the worked block, each refusal alone, every two at once in the order of trial, every spare word and
+flag, and the mistakes that lie close. The answers are worked out here from docs/RULES.md, 'The order of trial',
+apart from the port and from the oracle.
 """
 import os, struct, sys
 
@@ -65,7 +65,7 @@ def end(blocks, k=4):
 
 
 def refusals():
-    yield end([block(0)])  # document 01's own
+    yield end([block(0)])  # docs/RULES.md, 'Worked values'
     yield block(0, **END)  # nothing accepted
     for r in ORDER:
         for before in (0, 2):
@@ -119,7 +119,7 @@ def whole_block():
 
 
 def refusal(b):
-    """Document 01's table for a first block: 5, 6, 7, 8, 1, 4, 10 in this order, or 0."""
+    """The order of trial for a first block: 5, 6, 7, 8, 1, 4, 10 in this order, or 0."""
     if len(b) != 512:
         return 5
     w = struct.unpack('<128I', b)

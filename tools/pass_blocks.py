@@ -1,7 +1,7 @@
 #!/usr/bin/env python3
-"""Writes examples/pass.blocks: 2,000 tick blocks of one plausible pass, with a fixed seed.
+"""Writes crates/drive/stdin: 2,000 tick blocks of one plausible pass, with a fixed seed.
 
-  python3 tools/pass_blocks.py > examples/pass.blocks
+  tools/pass_blocks.py > crates/drive/stdin
 
 The cart is parked and seeded, drives by a position and then by a line command, loses the cameras for
 0.78 s and comes back off its predicted place, meets outliers, a failed planner and a failed estimator,

@@ -1,4 +1,4 @@
--- Document 01's starred case: twist 10.0 is unclamped; NaN stays NaN and is marked clamped. By computation. Assumes nothing.
+-- Worked cases: twist 10.0 is unclamped; NaN stays NaN and is marked clamped. By computation.
 use mathlib.Core.Path.{◌≡◌, refl}
 use mathlib.Core.Bool.{true, false}
 use lib.Ieee.{nan, binary32, of_bits, lt, eq, ne, neg}

@@ -1,5 +1,4 @@
 -- The clamps: every entry is within its bound or NaN, and without the mark it is equal to the one given. One law over the bounds serves twist and acceleration.
--- Assumes nothing.
 use mathlib.Core.Path.{◌≡◌, refl}
 use mathlib.Core.Bool.{Bool, true, false, not, ◌&&◌, ◌||◌, true≢false}
 use lib.Dec.{T}

@@ -1,4 +1,4 @@
--- What plan's decision forgets and what it keeps, and where a new plan's seed comes from. Assumes nothing.
+-- What plan's decision forgets and what it keeps, and where a new plan's seed comes from.
 use Prim.Native.Nat.{ℕ}
 use mathlib.Core.Path.{◌≡◌, refl}
 use mathlib.Core.Bool.{Bool, true, false, cond}
@@ -9,7 +9,7 @@ use Rattle.tick.specs.declared.command.ManeuverCommand.{ManeuverCommand}
 use Rattle.tick.specs.declared.sample.Sample.{Sample}
 use Rattle.std.specs.Prelude.{Some}
 use Rattle.control_context.specs.declared.memory.Memory.{Memory}
-use Rattle.control_context.specs.declared.maneuvers.answer.PlanAnswer.TheVariants.{Hold, NoVision, Keep, NewPlan}
+use Rattle.control_context.specs.declared.maneuvers.PlanAnswer.TheVariants.{Hold, NoVision, Keep, NewPlan}
 use Rattle.control_context.specs.Memory.{empty_memory}
 use Rattle.control_context.specs.Plan.{holds, hold, in_mode, plans_anew, seed_of, maneuver_answer, decided}
 

@@ -1,4 +1,4 @@
--- What equality as floats means for commands. Assumes nothing.
+-- What equality as floats means for commands.
 use Prim.Native.Nat.{ℕ, ◌*◌}
 use mathlib.Core.Path.{◌≡◌, refl, sym, ap, ◌∙◌, subst}
 use mathlib.Core.Bool.{Bool, true, false, not, ◌&&◌, ◌||◌, beq}

@@ -1,4 +1,4 @@
--- -0.0 does not survive in a setpoint: the Rust adds it to 0.0. By computation. Assumes nothing.
+-- -0.0 does not survive in a setpoint: the Rust adds it to 0.0. By computation.
 use mathlib.Core.Path.{◌≡◌, refl}
 use lib.Ieee.{Float, binary32, of_bits, round, size, add, mul}
 use Rattle.linear.specs.Vector.{zeros3, sum_of, scaled}

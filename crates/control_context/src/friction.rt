@@ -1,9 +1,9 @@
-// Document 01, 'Steer': the friction twist, local and gated.
+//! The twist that friction is compensated for, in local axes (docs/RULES.md, 'Friction').
 
 ghost use Rattle.std.specs.Prelude.{◌≡◌};
 ghost use Rattle.control_context.specs.Friction.{linear_comp_on, angular_comp_on, kept_if, friction_twist};
 
-use crate::setpoints::ManeuverSetpoints;
+use crate::tracking::ManeuverSetpoints;
 use ieee754::bits::abs;
 use ieee754::hypot::hypot;
 use linear::rotation::Rotation;
@@ -33,7 +33,8 @@ fn kept_if(on: bool, x: f32) -> f32
     if on { x } else { 0.0 }
 }
 
-// `heading` is the estimate's.
+/// The twist of `compute_friction`, before the friction force: each entry where its gate is on, and else 0.0.
+/// `heading` is the estimate's.
 #[tactic(auto, unfolding(crate::specs::Friction::friction_twist))]
 pub fn friction_twist(
     heading: Rotation,

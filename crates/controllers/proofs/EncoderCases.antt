@@ -1,27 +1,27 @@
--- Document 01's starred cases of the encoder lag, and the steps at further tick lengths, each by computation. Assumes nothing.
+-- Worked values of the encoder lag (docs/RULES.md, 'Worked values'), and the steps at further tick lengths, each by computation.
 use Rattle.std.proofs.Common.{◌≡◌, [], ◌∷◌, map, refl}
 use lib.Ieee.{of_int, of_bits, to_unsigned, add, mul, div}
-use Rattle.tick.specs.TickLength.{tick_length_of, micros_of}
+use Rattle.tick.specs.TickLength.{micros_of}
 use Rattle.std.specs.Prelude.{Ok}
 use Rattle.tick.specs.Refusal.{number_of}
 use Rattle.controllers.specs.EncoderLag.{duration_to_secs, horizon_over, n_steps_of, dt_of, new_lag, lag_of}
 
 -- k 0 and 65: 1
 pub zero_refused : number_of (lag_of 0) ≡ 1
-unfolding lag_of tick_length_of
+unfolding lag_of
 zero_refused = refl
 
 pub sixty_five_refused : number_of (lag_of 65) ≡ 1
-unfolding lag_of tick_length_of
+unfolding lag_of
 sixty_five_refused = refl
 
 -- k 1 and 64 accepted
 pub one_made : lag_of 1 ≡ Ok (new_lag 1)
-unfolding lag_of tick_length_of
+unfolding lag_of
 one_made = refl
 
 pub sixty_four_made : lag_of 64 ≡ Ok (new_lag 64)
-unfolding lag_of tick_length_of
+unfolding lag_of
 sixty_four_made = refl
 
 -- k 4: the lag's dt is 976 µs, and it has 10 steps

@@ -1,5 +1,4 @@
--- The encoder lag of document 01, 'The plain drive', last paragraph: the `FirstOrderLag` that control_context.rs makes for a tick length.
--- Assumes nothing.
+-- The encoder lag: the `FirstOrderLag` that control_context.rs makes for a tick length (docs/RULES.md, 'The encoder lag').
 use Rattle.std.specs.Prelude.{ℕ, max, true, false, T, pos, Float, Result}
 use Rattle.std.specs.Result.{result_map_both}
 use Rattle.std.specs.Float.{fin, binary32}
@@ -42,4 +41,4 @@ new_lag k = record {
 
 -- the answer to a k: a lag where k is a tick length's
 unfoldable pub lag_of : ℕ → Result FirstOrderLag Refusal
-lag_of k = result_map_both (λ t. new_lag t.k) (λ r. r) (tick_length_of k)
+lag_of k = result_map_both new_lag (λ r. r) (tick_length_of k)

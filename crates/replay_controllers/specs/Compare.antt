@@ -1,4 +1,4 @@
--- The words of an answer against the words wanted. Assumes nothing.
+-- The words of an answer against the words wanted.
 use Rattle.std.specs.Prelude.{ℕ, zero, suc, ◌+◌, Bool, true, ◌&&◌, List, eqb, get_or}
 use Rattle.tick_block.specs.Word.{word_at}
 

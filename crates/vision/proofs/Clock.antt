@@ -1,4 +1,4 @@
--- The vision clock over ticks that take no sighting: active exactly while m * k ≤ 2048 after taking, and never after a reset. Assumes nothing.
+-- The vision clock over ticks that take no sighting: active exactly while m * k ≤ 2048 after taking, and never after a reset.
 use mathlib.Core.Path.{◌≡◌, refl, sym, ap, ◌∙◌}
 use Prim.Native.Nat.{ℕ, zero, suc, ◌*◌, ◌≤◌, ◌<◌}
 use native.Mathlib.Nat.{suc-mul}

@@ -1,5 +1,5 @@
 -- The gate's radius over ticks that take no sighting: it passes every distance up to D metres once m * k ≥ 2048 * D, and only the first of
--- them can be a first refusal. Assumes nothing.
+-- them can be a first refusal.
 use mathlib.Core.Path.{◌≡◌, refl, sym, ◌∙◌}
 use Prim.Native.Nat.{ℕ, zero, suc, ◌+◌, ◌*◌, ◌≤◌}
 use native.Mathlib.Nat.{le_refl, suc-mul}
@@ -13,6 +13,8 @@ use lib.Ieee.Back.{round_whole}
 use Rattle.params.specs.Params.{vision_gate_base_radius_m, vision_gate_expand_rate_m_per_s}
 use Rattle.linear.specs.Vector.{zero_float}
 use Rattle.tick.specs.TickLength.{seconds_of}
+use Rattle.tick.specs.declared.start.Start.{Start}
+use Rattle.tick.specs.Start.{dt_of}
 use Rattle.linear.specs.declared.Vector3f.{Vector3f}
 use Rattle.linear.specs.declared.Vector6f.{Vector6f}
 use Rattle.vision.specs.declared.gate.VisionGateState.TheVariants.{Tracking}
@@ -48,11 +50,11 @@ widens k m D K l h r d small =
     (radius_least (since_taken (seconds_of k) m) D l h (sum_reaches k m (2048 * D) K (omega arith) (omega arith) r))
 
 -- so a tracking gate takes the sighting
-pub widening_takes : (k m D : ℕ) → k ≤ 64 → 1 ≤ D → D ≤ 64 → 2048 * D ≤ m * k → (v : Vector3f) (p : Vector6f) → T (le (distance v p) (of_int binary32 (pos D)))
-    → takes (judged (Tracking (since_taken (seconds_of k) m)) (Some v) p (seconds_of k)).action ≡ true
+pub widening_takes : (start : Start) (m D : ℕ) → start.tick_length ≤ 64 → 1 ≤ D → D ≤ 64 → 2048 * D ≤ m * start.tick_length → (v : Vector3f) (p : Vector6f) → T (le (distance v p) (of_int binary32 (pos D)))
+    → takes (judged (Tracking (since_taken (dt_of start) m)) (Some v) p start).action ≡ true
 unfolding judged sighting_judged
-widening_takes k m D K l h r v p small =
-    (inside_taken (since_taken (seconds_of k) m) (distance v p) (seconds_of k) (is_true (lt (distance v p) (radius (since_taken (seconds_of k) m))) (widens k m D K l h r (distance v p) small))).0
+widening_takes start m D K l h r v p small =
+    (inside_taken (since_taken (dt_of start) m) (distance v p) (dt_of start) (is_true (lt (distance v p) (radius (since_taken (dt_of start) m))) (widens start.tick_length m D K l h r (distance v p) small))).0
 
 -- a refusal is the first exactly where no tick came since the last taken sighting, quiet or not
 pub refusal : (k m : ℕ) → 1 ≤ k → k ≤ 64 → (d : Float) → lt d (radius (since_taken (seconds_of k) m)) ≡ false

@@ -1,0 +1,158 @@
+#!/usr/bin/env python3
+"""Times `drive` beside the firmware's own tick on the same blocks, in one run.
+
+    compare/bench/drive.py FIRMWARE_SRC [ROUNDS]
+
+- the ratio: 400,000 blocks, firmware and drive by turns, the best of ROUNDS (15) each;
+- growth: drive's time for a tick at 10^4, 10^5 and 10^6 ticks;
+- drive's instructions for a tick, where valgrind is there;
+- where drive's time goes, by two variants of it that are built without proof: one puts a byte for
+  each tick in the place of its line (what is saved is the text), one leaves the four calls out and
+  prints the block's own wheels (what is saved is the tick); the rest is reading and check.
+"""
+import os, re, shutil, subprocess, sys, tempfile, time
+from pathlib import Path
+
+COMPARE = Path(__file__).resolve().parent.parent
+TOP = COMPARE.parent
+sys.path.insert(0, str(TOP / "tools"))
+from build import build
+from unproved import Kit
+
+TICKS = 400_000
+# file, old text, new text: both keep what the line needs alive.
+NO_TEXT = (
+    "drive_text/src/driven.rt",
+    "    let len = write_line(&mut buf, line);\n",
+    "    let len = one_byte(&mut buf, line);\n",
+    """
+use line_text::Ending;
+fn one_byte(buf: &mut [u8; 128], line: Line) -> usize {
+    match line {
+        Line::Tick(t) => {
+            let ending = t.ending;
+            match ending {
+                Ending::Wheels(v) => {
+                    buf[0] = if v.x + v.y + v.z + v.w > 0.0 { t.letter } else { b'0' };
+                    1
+                }
+                Ending::Failed(r) => write_line(buf, line),
+            }
+        }
+        Line::Refused(r) => write_line(buf, line),
+    }
+}
+""",
+)
+NO_TICK = (
+    "drive_blocks/src/lib.rt",
+    "    let c = driver_of(pass, b)?;\n    Ok(drive_on(c, b))\n",
+    "    let c = in_any_order(pass, b)?;\n    Ok(look_only(c, b))\n",
+    """
+// No tick is counted, so that every block but the first comes out of order.
+fn in_any_order(pass: Pass, b: TickBlock) -> Result<BodyController, Refusal> {
+    match (driver_of(pass, b), pass) {
+        (Err(Refusal::Order), Pass::Driving(c)) => Ok(c),
+        (found, _) => found,
+    }
+}
+
+fn look_only(c: BodyController, b: TickBlock) -> Driven {
+    let sight = b.inputs.sight;
+    let wheels = sight.wheel_vel_meas;
+    let line = line_text::TickLine {
+        number: b.number,
+        letter: b'Q',
+        active: c.vision_active(),
+        recovering: c.tracking_divergence_recovery_active(),
+        ending: line_text::Ending::Wheels(wheels),
+    };
+    Driven {
+        line: line_text::Line::Tick(line),
+        pass: Pass::Driving(c),
+    }
+}
+""",
+)
+
+
+def seconds(command, blocks):
+    """Time by the clock, and the processor's time that the program took."""
+    with open(blocks, "rb") as given:
+        began = time.perf_counter()
+        child = subprocess.Popen(command, stdin=given, stdout=subprocess.DEVNULL)
+        _, status, used = os.wait4(child.pid, 0)
+        taken = time.perf_counter() - began
+    child.returncode = os.waitstatus_to_exitcode(status)
+    assert child.returncode == 0, command
+    return taken, used.ru_utime + used.ru_stime
+
+
+def best(commands, blocks, rounds):
+    """The best of both times of each command, run by turns."""
+    times = [[seconds(c, blocks) for c in commands] for _ in range(rounds)]
+    return [tuple(map(min, zip(*column))) for column in zip(*times)]
+
+
+def instructions(command, blocks):
+    counted = ["valgrind", "--tool=callgrind", "--callgrind-out-file=/dev/null", *command]
+    with open(blocks, "rb") as given:
+        run = subprocess.run(counted, stdin=given, stdout=subprocess.DEVNULL, stderr=subprocess.PIPE, text=True, check=True)
+    return int(re.search(r"Collected : (\d+)", run.stderr).group(1))
+
+
+def variant(kit, room, name, edit):
+    crates = room / "crates"
+    shutil.rmtree(crates, ignore_errors=True)
+    shutil.copytree(TOP / "crates", crates, ignore=shutil.ignore_patterns("out", "specs", "proofs", "must-fail", "data", "std*"))
+    if edit:
+        file, old, new, more = edit
+        source = (crates / file).read_text()
+        assert source.count(old) == 1, f"{file} has changed"
+        (crates / file).write_text(source.replace(old, new) + more)
+    kit.build("drive", crates, room / name, checks=False)
+    return [room / name]
+
+
+def main():
+    if len(sys.argv) not in (2, 3):
+        sys.exit(__doc__)
+    os.environ["FIRMWARE_SRC"] = str(Path(sys.argv[1]).resolve())
+    rounds = int(sys.argv[2]) if len(sys.argv) == 3 else 15
+    # Without the checks that the oracle otherwise keeps in.
+    os.environ["CARGO_PROFILE_RELEASE_DEBUG_ASSERTIONS"] = "false"
+    os.environ["CARGO_PROFILE_RELEASE_OVERFLOW_CHECKS"] = "false"
+    target = Path(os.environ.get("CARGO_TARGET_DIR", COMPARE / "target")) / "bench"
+    cargo = ["cargo", "build", "--quiet", "--release", "--offline", "--target-dir", target]
+    subprocess.run(cargo + ["--manifest-path", COMPARE / "oracle/Cargo.toml"], check=True)
+    room = Path(tempfile.mkdtemp())
+    try:
+        kit = Kit(room)
+        drive = [build("drive")]
+        ticks = [target / "release/ticks"]
+        for count in (10**4, 10**5, TICKS, 10**6):
+            with open(room / str(count), "wb") as out:
+                subprocess.run([target / "release/blocks", "1", str(count), "4"], stdout=out, check=True)
+        load = os.getloadavg()[0]
+
+        blocks = room / str(TICKS)
+        firmware, ours = best([ticks, drive], blocks, rounds)
+        print(f"{TICKS} blocks, best of {rounds} by turns (load {load:.1f} on {os.cpu_count()} cores):")
+        for what, i in (("clock", 0), ("processor", 1)):
+            print(f"  {what}: firmware {firmware[i]:.3f} s, drive {ours[i]:.3f} s, ratio {firmware[i] / ours[i]:.2f}")
+
+        for count in (10**4, 10**5, 10**6):
+            ((clock, cpu),) = best([drive], room / str(count), rounds)
+            print(f"{count} ticks: {clock * 1e9 / count:.0f} ns for a tick by the clock, {cpu * 1e9 / count:.0f} of processor")
+        if shutil.which("valgrind"):
+            print(f"{instructions(drive, room / str(10**4)) / 10**4:.0f} instructions for a tick, over 10000 ticks (callgrind)")
+
+        variants = [variant(kit, room, *v) for v in (("whole", None), ("no_text", NO_TEXT), ("no_tick", NO_TICK))]
+        whole, no_text, no_tick = (cpu * 1e9 / TICKS for _, cpu in best(variants, blocks, rounds))
+        text, tick = whole - no_text, whole - no_tick
+        print(f"ns of processor for a tick: {whole:.0f}; reading and check {whole - text - tick:.0f}, tick {tick:.0f}, text {text:.0f}")
+    finally:
+        shutil.rmtree(room)
+
+
+main()

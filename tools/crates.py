@@ -1,0 +1,23 @@
+"""What crates.txt says: the libraries that each crate uses."""
+from pathlib import Path
+
+TOP = Path(__file__).resolve().parent.parent
+
+
+def uses(top=TOP):
+    """The libraries that each crate of the repository names, by the crate's name."""
+    found = {}
+    for line in (top / "crates.txt").read_text().splitlines():
+        crate, colon, libraries = line.partition("#")[0].partition(":")
+        if colon:
+            found[crate.split()[0]] = libraries.split()
+    return found
+
+
+def below(crate, of):
+    """The libraries of the repository that a crate uses, directly and not, lowest first."""
+    found = []
+    for name in of[crate]:
+        if name in of:
+            found += [it for it in [*below(name, of), name] if it not in found]
+    return found
