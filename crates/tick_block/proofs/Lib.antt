@@ -1,3 +1,4 @@
 -- Laws and lemmas.
 pub mod Vectors
+pub mod Past
 pub mod Refusal

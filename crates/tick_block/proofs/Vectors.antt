@@ -1,4 +1,4 @@
--- The vectors of a block are made of its floats. Assumes nothing.
+-- The vectors of a block are made of its floats.
 use Rattle.std.proofs.Common.{◌≡◌, ℕ, List, add-zero}
 use Rattle.linear.specs.Vector.{vector2_of, vector3_of, vector4_of}
 use Rattle.tick_block.specs.Floats.{floats_at, vector2_at, vector3_at, vector4_at}

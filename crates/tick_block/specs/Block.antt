@@ -1,41 +1,29 @@
--- A tick block, document 01, 'Records', and why one is refused, 'When a call is turned away'. Assumes nothing.
-use Rattle.std.specs.Prelude.{ℕ, cond, List, Result}
+-- A tick block, and why bytes are refused as one (docs/RULES.md, 'The order of trial').
+use Rattle.std.specs.Prelude.{ℕ, if◌then◌else◌, not, List, Result}
 use Rattle.std.specs.Result.{result_map_both}
-use Rattle.tick.specs.declared.tick_length.TickLength.{TickLength}
-use Rattle.tick.specs.TickLength.{is_tick_length}
-use Rattle.tick.specs.Command.{is_mode}
-use Rattle.tick_block.specs.Word.{word_at}
-use Rattle.tick_block.specs.Layout as at
-use Rattle.tick_block.specs.Check.{spare_zero}
 use Rattle.tick.specs.declared.refusal.Refusal.{Refusal}
-use Rattle.tick_block.specs.Tests.{is_whole, checks, is_version, block_tested}
-use Rattle.tick_block.specs.SightInputs.{sight_input, plan_input}
-use Rattle.tick_block.specs.SteerInputs.{steer_input, finish_input}
 use Rattle.tick_block.specs.declared.TickBlock.{TickBlock}
-
--- ---- the answer
+use Rattle.tick_block.specs.Words.{word_at}
+use Rattle.tick_block.specs.Layout as at
+use Rattle.tick_block.specs.Check.{is_spare_zero}
+use Rattle.tick_block.specs.Tests.{is_whole, checks, is_version, has_tick_length, has_mode, block_tested}
+use Rattle.tick_block.specs.Inputs.{tick_input}
 
 -- what an accepted block says
-unfoldable pub tick_block : List ℕ → TickLength → TickBlock
-tick_block s t = record {
-  number = word_at s at.number;
-  tick = t;
-  inputs = record { sight = sight_input s; plan = plan_input s; steer = steer_input s; finish = finish_input s };
-}
+unfoldable pub tick_block : List ℕ → ℕ → TickBlock
+tick_block s tick_length = record { number = word_at s at.number; tick_length = tick_length; inputs = tick_input s }
 
--- what it says where it passed, and else why it is refused
+-- what it says where it passes the tests, and else why it is refused
 unfoldable pub block_read : List ℕ → Result TickBlock Refusal
 block_read s = result_map_both (tick_block s) (λ r. r) (block_tested s)
 
--- ---- document 01's numbers
-
--- 'Blocks: 5, 6, 7, 8, 1, 4': the first that applies, 0 where none does
+-- the number of the first refusal that applies, 0 where none does
 unfoldable pub block_refusal : List ℕ → ℕ
 block_refusal s =
-    cond (is_whole s)
-    (cond (checks s)
-    (cond (is_version s)
-    (cond (spare_zero s)
-    (cond (is_tick_length (word_at s at.tick_length))
-    (cond (is_mode (word_at s at.mode)) 0 4)
-    1) 8) 7) 6) 5
+    if not (is_whole s) then 5
+    else (if not (checks s) then 6
+    else (if not (is_version s) then 7
+    else (if not (is_spare_zero s) then 8
+    else (if not (has_tick_length s) then 1
+    else (if not (has_mode s) then 4
+    else 0)))))

@@ -1,15 +1,14 @@
--- The flags of a block, document 01, 'Records'. Assumes nothing.
-use Rattle.std.specs.Prelude.{ℕ, ◌/◌, ◌%◌, ◌^◌, Bool, List, eqb}
-use Rattle.tick_block.specs.Word.{word_at}
+-- The flags of a block.
+use Rattle.std.specs.Prelude.{ℕ, ◌/◌, ◌%◌, ◌^◌, Bool, List, ◌==◌}
+use Rattle.tick_block.specs.Words.{word_at}
 use Rattle.tick_block.specs.Layout as at
-use Rattle.tick_block.specs.declared.sight.flag.Flag.{Flag}
-use Rattle.tick_block.specs.declared.sight.flag.Flag.TheVariants as F
+use Rattle.tick_block.specs.declared.flags.Flag.{Flag}
+use Rattle.tick_block.specs.declared.flags.Flag.TheVariants as F
 
 -- bit i of the flags' word
 abbrev pub flag_at : List ℕ → ℕ → Bool
-flag_at s i = eqb (word_at s at.flags / 2 ^ i % 2) 1
+flag_at s i = word_at s at.flags / 2 ^ i % 2 == 1
 
--- bit 0 sighting, 1 halt, 2 stop, 3 estimator failed, 4 planner failed
 abbrev pub bit_of : Flag → ℕ
 bit_of F.Seen = 0
 bit_of F.Halt = 1

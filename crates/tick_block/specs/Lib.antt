@@ -1,14 +1,10 @@
 -- Definitions that the contracts of `tick_block` cite.
-pub mod Word
 pub mod Layout
-pub mod Check
+pub mod Words
 pub mod Floats
+pub mod Flags
+pub mod Check
 pub mod Tests
 pub mod Order
+pub mod Inputs
 pub mod Block
-pub mod Flags
-pub mod SightParts
-pub mod CommandWords
-pub mod SightInputs
-pub mod SteerParts
-pub mod SteerInputs

@@ -1,43 +1,42 @@
--- The tests of a tick block, document 01, 'When a call is turned away'. Assumes nothing.
-use Rattle.std.specs.Prelude.{ℕ, Bool, cond, List, eqb, length, Result, Ok, Err}
+-- The tests that bytes pass before they are read as a tick block (docs/RULES.md, 'The order of trial').
+use Rattle.std.specs.Prelude.{ℕ, Bool, if◌then◌else◌, List, ◌==◌, length, Result, Ok, Err}
 use Rattle.tick.specs.declared.refusal.Refusal.{Refusal}
 use Rattle.tick.specs.declared.refusal.Refusal.TheVariants as Why
-use Rattle.tick.specs.declared.tick_length.TickLength.{TickLength}
-use Rattle.tick.specs.TickLength.{tick_length_of}
-use Rattle.tick.specs.Command.{is_mode}
-use Rattle.tick_block.specs.Word.{word_at}
+use Rattle.tick.specs.TickLength.{is_tick_length}
+use Rattle.tick.specs.Mode.{is_mode}
+use Rattle.tick_block.specs.Words.{word_at}
 use Rattle.tick_block.specs.Layout as at
-use Rattle.tick_block.specs.Check.{check_of, spare_zero}
+use Rattle.tick_block.specs.Check.{check_of, is_spare_zero}
 
 -- ---- what is tested
 
--- the block is 512 bytes
 abbrev pub is_whole : List ℕ → Bool
-is_whole s = eqb (length s) at.bytes
+is_whole s = length s == at.block_bytes
 
--- the check does not differ
 abbrev pub checks : List ℕ → Bool
-checks s = eqb (word_at s at.check) (check_of s)
+checks s = word_at s at.check == check_of s
 
--- the version is 1
 abbrev pub is_version : List ℕ → Bool
-is_version s = eqb (word_at s at.version) 1
+is_version s = word_at s at.version == 1
+
+abbrev pub has_tick_length : List ℕ → Bool
+has_tick_length s = is_tick_length (word_at s at.tick_length)
+
+abbrev pub has_mode : List ℕ → Bool
+has_mode s = is_mode (word_at s at.mode)
 
 -- ---- the tests, in their order
 
--- by its tick length, then by its mode
-abbrev pub tested_with : Result TickLength Refusal → List ℕ → Result TickLength Refusal
-tested_with (Ok t) s = cond (is_mode (word_at s at.mode)) (Ok t) (Err Why.Mode)
-tested_with (Err r) s = Err r
+-- one test before an answer
+abbrev pub tested : Bool → Refusal → Result ℕ Refusal → Result ℕ Refusal
+tested holds refusal answer = if holds then answer else Err refusal
 
--- 1, then 4
-unfoldable pub inputs_tested : List ℕ → Result TickLength Refusal
-inputs_tested s = tested_with (tick_length_of (word_at s at.tick_length)) s
-
--- 7, then 8, then the rest
-unfoldable pub format_tested : List ℕ → Result TickLength Refusal
-format_tested s = cond (is_version s) (cond (spare_zero s) (inputs_tested s) (Err Why.Spare)) (Err Why.Version)
-
--- 5, then 6, then the rest
-unfoldable pub block_tested : List ℕ → Result TickLength Refusal
-block_tested s = cond (is_whole s) (cond (checks s) (format_tested s) (Err Why.Check)) (Err Why.Length)
+-- the tick length of a block that passes every test, or the first refusal that applies
+unfoldable pub block_tested : List ℕ → Result ℕ Refusal
+block_tested s =
+    tested (is_whole s) Why.Length
+    (tested (checks s) Why.Check
+    (tested (is_version s) Why.Version
+    (tested (is_spare_zero s) Why.Spare
+    (tested (has_tick_length s) Why.TickLength
+    (tested (has_mode s) Why.Mode (Ok (word_at s at.tick_length)))))))

@@ -1,30 +1,15 @@
-// The words of a tick block that are tested and hold no input: the check and the spare ones.
+//! The check of a tick block, and the bits and words that must be zero.
 
 ghost use Rattle.std.specs.Prelude.{◌≡◌};
-ghost use Rattle.tick_block.specs.Check.{check_of, zero_spares, spare_zero};
+ghost use Rattle.tick_block.specs.Check.{check_of, with_check, are_zero, is_spare_zero};
 
-use crate::words::word_at;
+use crate::layout::{CHECK, FLAGS, SPARE, SPARES};
+use crate::words::{put_word, word_at};
 
-// Where words lie that other modules read too, document 01, 'Records'.
-pub const NUMBER: usize = 1;
-
-pub const FLAGS: usize = 2;
-
-pub const MODE: usize = 3;
-
-pub const TICK_LENGTH: usize = 105;
-
-pub const CHECK: usize = 127;
-
-// The first spare word, and how many there are.
-const SPARE: usize = 106;
-
-const SPARES: usize = 21;
-
-// The first number that is no sum of flags.
+// The first number that is no sum of the five flags.
 const ALL_FLAGS: u32 = 32;
 
-// What word 127 should be.
+/// What the check's word is to be: 1 plus the words before it.
 #[tactic(auto, unfolding(crate::specs::Check::word_sum, crate::specs::Check::check_of))]
 pub fn check_of(block: &[u8]) -> u32
     ensures { result ≡ check_of block.now }
@@ -36,10 +21,19 @@ pub fn check_of(block: &[u8]) -> u32
     sum
 }
 
-// Whether the 21 spare words are zero. All are looked at: to stop at the first takes twice as long.
-#[tactic(auto, unfolding(crate::specs::Check::zero_spares))]
-fn zero_spares(block: &[u8]) -> bool
-    ensures { result ≡ zero_spares block.now 21 }
+/// Makes the check fit the words before it.
+#[tactic(auto, unfolding(crate::specs::Check::with_check))]
+pub fn renew_check(block: &mut [u8])
+    ensures { block.new ≡ with_check block.old }
+{
+    let check = check_of(block);
+    put_word(block, CHECK, check);
+}
+
+// Whether the spare words are zero. All are looked at: to stop at the first takes twice as long.
+#[tactic(auto, unfolding(crate::specs::Check::are_zero))]
+fn are_spares_zero(block: &[u8]) -> bool
+    ensures { result ≡ are_zero block.now 21 }
 {
     let mut zero = true;
     for i in 0..SPARES {
@@ -48,10 +42,10 @@ fn zero_spares(block: &[u8]) -> bool
     zero
 }
 
-// Whether the flags and the spare words are as they should be.
-#[tactic(auto, unfolding(crate::specs::Check::spare_zero))]
-pub fn spare_zero(block: &[u8]) -> bool
-    ensures { result ≡ spare_zero block.now }
+/// Whether the spare bits of the flags and the spare words are zero.
+#[tactic(auto, unfolding(crate::specs::Check::is_spare_zero))]
+pub fn is_spare_zero(block: &[u8]) -> bool
+    ensures { result ≡ is_spare_zero block.now }
 {
-    (word_at(block, FLAGS) < ALL_FLAGS) & zero_spares(block)
+    (word_at(block, FLAGS) < ALL_FLAGS) & are_spares_zero(block)
 }

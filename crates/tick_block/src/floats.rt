@@ -1,12 +1,12 @@
-// The floats of a block, one by one and by arrays.
+//! Words read as floats, one by one and by arrays.
 
-ghost use Rattle.std.specs.Prelude.{◌≡◌};
+ghost use Rattle.std.specs.Prelude.{◌≡◌, ◌+◌};
 ghost use Rattle.tick_block.specs.Floats.{float_at, floats_at};
 
 use crate::words::word_at;
 use ieee754::bits::from_bits;
 
-// The float whose bits are word i.
+/// The float whose bits are word i.
 #[tactic(auto, unfolding(crate::specs::Floats::float_at))]
 pub fn float_at(block: &[u8], i: usize) -> f32
     ensures { result ≡ float_at block.now i }
@@ -14,13 +14,22 @@ pub fn float_at(block: &[u8], i: usize) -> f32
     from_bits(word_at(block, i))
 }
 
-// The floats from word `at` on, a u8 so that no sum overflows. A loop: `from_fn` takes twice as long.
-pub fn floats_at<const N: usize>(block: &[u8], at: u8) -> [f32; N]
+// The float of word `at + i`. Past the last number there is no word.
+#[tactic(auto, using(crate::proofs::Past::held))]
+fn float_after(block: &[u8], at: usize, i: usize) -> f32
+    ensures { result ≡ float_at block.now (at + i) }
+{
+    float_at(block, at.saturating_add(i))
+}
+
+/// The floats of the words from `at` on.
+// A loop: `from_fn` takes twice as long.
+pub fn floats_at<const N: usize>(block: &[u8], at: usize) -> [f32; N]
     ensures { result ≡ floats_at block.now at N }
 {
     let mut floats = [0.0; N];
     for (i, x) in floats.iter_mut().enumerate() {
-        *x = float_at(block, at as usize + i);
+        *x = float_after(block, at, i);
     }
     floats
 }

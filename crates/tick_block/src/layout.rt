@@ -1,33 +1,69 @@
-// Where the words of the calls' inputs lie, document 01, 'Records'. A part is named by its first word, a
-// u8 where it has several, as `blocks::floats` reads it, and a matrix by the first word of each row.
+//! Where the 128 words of a tick block lie. A part of several words is named by its first one.
 
-pub(crate) const SIGHTING: u8 = 4;
+/// The length of a tick block.
+pub const BLOCK_BYTES: usize = 512;
 
-// Sight and steer take the same.
-pub(crate) const WHEELS: u8 = 7;
+pub const VERSION: usize = 0;
 
-pub(crate) const GYRO: usize = 11;
+/// The tick's number in its pass.
+pub const NUMBER: usize = 1;
 
-pub(crate) const PREDICTED: u8 = 12;
+pub const FLAGS: usize = 2;
 
-pub(crate) const ESTIMATE: u8 = 18;
+pub const MODE: usize = 3;
 
-pub(crate) const COMMAND: usize = 24;
+/// Three words: the sighted pose.
+pub const SIGHTING: usize = 4;
 
-pub(crate) const FRESH: u8 = 37;
+/// Four words: the measured wheel speeds, which sight and steer both take.
+pub const WHEELS: usize = 7;
 
-pub(crate) const NEXT: u8 = 46;
+pub const GYRO: usize = 11;
 
-pub(crate) const COSINE: usize = 55;
+/// Six words: the estimator's prediction.
+pub const PREDICTED: usize = 12;
 
-pub(crate) const SINE: usize = 56;
+/// Six words: the estimator's estimate.
+pub const ESTIMATE: usize = 18;
 
-pub(crate) const INVERSE_INERTIA: [u8; 3] = [57, 60, 63];
+/// Thirteen words, of which the mode says how many are used.
+pub const COMMAND: usize = 24;
 
-pub(crate) const TWIST_TO_WHEEL: [u8; 4] = [66, 69, 72, 75];
+/// Nine words: the sample that a new plan gives for this tick.
+pub const FRESH: usize = 37;
 
-pub(crate) const ACCEL_TO_WHEEL: [u8; 4] = [78, 81, 84, 87];
+/// Nine words: the sample that the tracked plan gives for the next tick.
+pub const NEXT: usize = 46;
 
-pub(crate) const WHEEL_TO_TWIST: [u8; 3] = [90, 94, 98];
+/// The cosine of the estimate's heading.
+pub const COSINE: usize = 55;
 
-pub(crate) const FRICTION: u8 = 102;
+/// The sine of the estimate's heading.
+pub const SINE: usize = 56;
+
+/// Three rows of three words.
+pub const INVERSE_INERTIA: usize = 57;
+
+/// Four rows of three words.
+pub const TWIST_TO_WHEEL: usize = 66;
+
+/// Four rows of three words.
+pub const ACCEL_TO_WHEEL: usize = 78;
+
+/// Three rows of four words, at the sighted heading.
+pub const WHEEL_TO_TWIST: usize = 90;
+
+/// Three words: the friction force in local axes.
+pub const FRICTION: usize = 102;
+
+/// The tick length's k.
+pub const TICK_LENGTH: usize = 105;
+
+/// The first of the words that are to be zero.
+pub const SPARE: usize = 106;
+
+/// How many words are to be zero.
+pub const SPARES: usize = 21;
+
+/// The last word.
+pub const CHECK: usize = 127;

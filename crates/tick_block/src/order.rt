@@ -1,4 +1,4 @@
-// The order of a pass' blocks, a term of document 01: refusals 9 and 10.
+//! Whether a block comes in order in its pass.
 
 ghost use Rattle.std.specs.Prelude.{◌≡◌};
 ghost use Rattle.tick.specs.Refusal.{number_of};
@@ -7,16 +7,16 @@ ghost use Rattle.tick_block.specs.Order.{order_tested, order_of};
 use tick::refusal::Refusal;
 use tick::tick_length::TickLength;
 
-// A block's tick length beside the drive's own: 9. Then its number beside the next tick's: 10.
+/// A block's tick length is to be the drive's own, and then its number that of the next tick.
 pub fn order_tested(
-    tick: TickLength,
+    tick_length: TickLength,
     own: TickLength,
     number: u32,
     next: u32,
 ) -> Result<(), Refusal>
-    ensures { (result ≡ order_tested tick own number next) × (number_of result ≡ order_of tick own number next) }
+    ensures { (result ≡ order_tested tick_length own number next) × (number_of result ≡ order_of tick_length own number next) }
 {
-    if tick != own {
+    if tick_length != own {
         return Err(Refusal::OtherTickLength);
     }
     if number != next {

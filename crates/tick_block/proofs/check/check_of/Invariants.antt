@@ -1,4 +1,4 @@
--- The sum so far is 1 plus that of the words passed, modulo 2^32. Assumes nothing.
+-- The sum so far is 1 plus that of the words passed, modulo 2^32.
 use Rattle.std.proofs.Common.{◌≡◌, ◌+◌, ◌%◌, ◌^◌}
 use Rattle.tick_block.specs.Check.{word_sum}
 use Rattle.tick_block.proofs.check.check_of.Given as goal

@@ -1,13 +1,15 @@
-// The flags of a block.
+//! The flags of a block.
+
 ghost use Rattle.std.specs.Prelude.{◌≡◌};
 ghost use Rattle.tick_block.specs.Flags.{flag_at, bit_of};
 
-use crate::check::FLAGS;
+use crate::layout::FLAGS;
 use crate::words::word_at;
 
-// In the order of their bits, from bit 0 up.
-#[derive(Clone, Copy)]
+/// In the order of their bits, from bit 0 up.
+#[derive(Clone, Copy, Debug, PartialEq, Eq)]
 pub enum Flag {
+    /// There is a sighting.
     Seen,
     Halt,
     Stop,

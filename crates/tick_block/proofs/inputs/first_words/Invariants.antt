@@ -1,8 +1,8 @@
 -- Those that are read, and those that are still 0.0.
 use Rattle.std.proofs.Common.{◌≡◌, ℕ, ◌<◌, ◌≤◌, length, get_or}
 use Rattle.linear.specs.Vector.{zero_float}
-use Rattle.tick_block.specs.CommandWords.{word_below}
-use Rattle.tick_block.proofs.sight.command.first_words.Given as goal
+use Rattle.tick_block.specs.Inputs.{word_below}
+use Rattle.tick_block.proofs.inputs.first_words.Given as goal
 
 abbrev pub invariant-loop-i : goal.invariant-loop-i
 invariant-loop-i l =

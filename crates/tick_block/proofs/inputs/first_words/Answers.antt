@@ -1,7 +1,7 @@
 -- Every index is passed.
 use Rattle.linear.proofs.Arrays.{filled}
-use Rattle.tick_block.specs.CommandWords.{first_words}
-use Rattle.tick_block.proofs.sight.command.first_words.Goals as goal
+use Rattle.tick_block.specs.Inputs.{first_words}
+use Rattle.tick_block.proofs.inputs.first_words.Goals as goal
 
 pub returns : goal.returns
 unfolding first_words
