@@ -1,5 +1,2 @@
 -- Laws and lemmas.
-pub mod EveryPass
-pub mod Batches
-pub mod BatchHolds
-pub mod Going
+pub mod Appending

@@ -37,8 +37,8 @@ abbrev pub one_block : Pass → List ℕ → Batched
 one_block p block = let d = driven p block in record { blocks = block ∷ []; lines = d.line ∷ []; pass = d.pass; over = is_refused d.line }
 
 -- a refused block ends the reading: what follows counts only where none was refused
-abbrev pub then : Batched → Batched → Batched
-then t rest = if t.over then t else record rest { blocks = t.blocks ++ rest.blocks; lines = t.lines ++ rest.lines }
+abbrev pub followed_by : Batched → Batched → Batched
+followed_by t rest = if t.over then t else record rest { blocks = t.blocks ++ rest.blocks; lines = t.lines ++ rest.lines }
 
 -- up to n blocks of the bytes
 unfoldable pub batch_of : ℕ → Pass → List ℕ → Batched
@@ -46,7 +46,7 @@ batch_of zero p bytes = nothing p
 batch_of (suc n) p [] = nothing p
 batch_of (suc n) p (b ∷ bytes) =
     let first = one_block p (first_block (b ∷ bytes)) in
-    then first (batch_of n first.pass (behind_first (b ∷ bytes)))
+    followed_by first (batch_of n first.pass (behind_first (b ∷ bytes)))
 
 -- all of the bytes: there are no more blocks than bytes
 unfoldable pub whole_of : Pass → List ℕ → Batched

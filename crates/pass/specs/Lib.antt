@@ -1,7 +1,5 @@
 -- Definitions that the contracts of `pass` cite.
 pub mod Tick
 pub mod Pass
-pub mod PlainPass
 pub mod Batch
-pub mod BatchLaws
-pub mod BatchHolds
+

@@ -41,15 +41,15 @@ ended_by last number action = record {
 }
 
 -- the next call, where this one was accepted: the tick ends with the first that is turned away
-abbrev pub then : {A B : Type 0} → Result A Refusal → BodyController → (BodyController → Called B) → Called B
-then (Ok a) c next = next c
-then (Err r) c next = refused r c
+abbrev pub if_accepted : {A B : Type 0} → Result A Refusal → BodyController → (BodyController → Called B) → Called B
+if_accepted (Ok a) c next = next c
+if_accepted (Err r) c next = refused r c
 
 unfoldable pub steered : BodyController → TickInput → Called Finished
-steered c i = let s = steer_of c i.steer in then s.answer s.controller (λ d. finish_of d i.finish)
+steered c i = let s = steer_of c i.steer in if_accepted s.answer s.controller (λ d. finish_of d i.finish)
 
 unfoldable pub planned : BodyController → TickInput → Called Finished
-planned c i = let p = plan_of c i.plan in then p.answer p.controller (λ d. steered d i)
+planned c i = let p = plan_of c i.plan in if_accepted p.answer p.controller (λ d. steered d i)
 
 -- c is the controller before sight, and d the one after it; where sight refuses, so is the block
 abbrev pub ticked_with : Result Sighted Refusal → BodyController → BodyController → TickInput → Result Ticked Refusal

@@ -4,8 +4,6 @@ ghost use Rattle.line_text.specs.Text.{line_text};
 ghost use Rattle.line_text.specs.Puts.{Within};
 ghost use Rattle.pass.specs.Pass.{driven};
 ghost use Rattle.pass.specs.Batch.{is_refused, written, text_of, batch_into, answer_of};
-ghost use Rattle.pass.specs.BatchHolds.{PassHoldsOf};
-ghost use Rattle.pass.specs.declared.pass.Pass.TheVariants.{Empty};
 
 use crate::pass::Pass;
 use line_text::line::{LINE, Line, write_line};
@@ -45,8 +43,12 @@ fn append_line(out: &mut [u8], at: usize, line: Line) -> usize
     ensures out_after { out.new ≡ take at out.old ++ line_text line ++ drop (at + length (line_text line)) out.old }
     ensures upper_bound { result ≤ at + 128 }
 {
-    let room = out[at..].first_chunk_mut::<LINE>().unwrap();
-    at + write_line(line, room)
+    let rest = &mut out[at..];
+    let room = rest.first_chunk_mut::<LINE>().unwrap();
+    let len = write_line(line, room);
+    // No effect at run time. The proof reads what `out` holds from this use of `rest`.
+    let _ = &*rest;
+    at + len
 }
 
 /// Drives blocks to their end or to the first refusal, as many as `out` has room for at `LINE` bytes a line, and puts
@@ -56,7 +58,6 @@ pub fn drive_batch(pass: &mut Pass, blocks: &[u8], out: &mut [u8]) -> Written
     ensures value { let t = batch_into out.old pass.old blocks.now in (result ≡ answer_of t) × (pass.new ≡ t.pass) }
     ensures out_after { out.new ≡ text_of (batch_into out.old pass.old blocks.now).lines ++ drop result.len out.old }
     ensures within { Within result.len out.new }
-    ensures begins { pass.old ≡ Empty → PassHoldsOf (batch_into out.old pass.old blocks.now) pass.new }
 {
     let room = out.len() / LINE;
     let mut w = Written {

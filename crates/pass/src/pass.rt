@@ -1,6 +1,6 @@
 //! A pass, and a block driven in it.
 ghost use Rattle.std.specs.Prelude.{◌≡◌, MatchResult, Ok, Err};
-ghost use Rattle.pass.specs.Pass.{driven, next_number, taken, totals_of};
+ghost use Rattle.pass.specs.Pass.{driven, driver_of, next_number, taken, totals_of};
 ghost use Rattle.pass.specs.declared.pass.Pass.TheVariants.{Driving};
 
 use crate::calls::drive_tick;
@@ -37,29 +37,33 @@ impl Pass {
         self.totals().ticks
     }
 
+    // The controller that is to drive a block.
+    #[tactic(auto, unfolding(crate::specs::Pass::driver_of))]
+    fn driver_of(&self, b: &TickBlock) -> Result<BodyController, Refusal>
+        ensures { result ≡ driver_of self.now b.now }
+    {
+        match self {
+            Pass::Empty if b.number != 0 => Err(Refusal::Order),
+            Pass::Empty => Ok(BodyController::start(Start {
+                tick_length: b.tick_length,
+            })),
+            Pass::Driving(c) => {
+                order_tested(b.tick_length, c.tick_length(), b.number, c.totals().ticks)?;
+                Ok(*c)
+            }
+        }
+    }
+
     // Drives a block, or answers why it is refused: then the pass stays as it is.
-    #[tactic(auto, unfolding(crate::specs::Pass::taken, crate::specs::Pass::driver_of))]
+    #[tactic(auto, unfolding(crate::specs::Pass::taken))]
     fn take(&mut self, block: &[u8]) -> Result<TickLine, Refusal>
         ensures { MatchResult (taken self.old block.now) (λ t. (result ≡ Ok t.line) × (self.new ≡ Driving t.controller)) (λ r. (result ≡ Err r) × (self.new ≡ self.old)) }
     {
         let b = TickBlock::read(block)?;
-        match self {
-            Pass::Empty => {
-                if b.number != 0 {
-                    return Err(Refusal::Order);
-                }
-                let mut c = BodyController::start(Start {
-                    tick_length: b.tick_length,
-                });
-                let line = drive_tick(&mut c, &b.inputs)?;
-                *self = Pass::Driving(c);
-                Ok(line)
-            }
-            Pass::Driving(c) => {
-                order_tested(b.tick_length, c.tick_length(), b.number, c.totals().ticks)?;
-                drive_tick(c, &b.inputs)
-            }
-        }
+        let mut c = self.driver_of(&b)?;
+        let line = drive_tick(&mut c, &b.inputs)?;
+        *self = Pass::Driving(c);
+        Ok(line)
     }
 
     /// Drives a block, and answers its line. A refused block leaves the pass as it is.
