@@ -1,4 +1,5 @@
-//! Finish, the tick's last call: from setpoints and friction force to wheel speeds and torques (docs/RULES.md, 'Finish').
+//! Finish, the tick's last call: from setpoints and friction force to wheel speeds and torques (docs/RULES.md,
+//! 'Finish').
 ghost use Rattle.std.specs.Prelude.{◌≡◌};
 ghost use Rattle.tick.specs.Refusal.{number_of};
 ghost use Rattle.body_controller.specs.Finish.{friction_compensated, finished_by, finish_of, finish_refusal};

@@ -18,8 +18,8 @@ differs u v = ne u.x v.x || ne u.y v.y || ne u.z v.z
 unfoldable pub clamped_to : Float → Float → Vector3f → Clamped
 clamped_to linear angular v = record { value = within linear angular v; clamped = differs (within linear angular v) v }
 
-unfoldable pub twist_clamped : Vector3f → Clamped
+abbrev pub twist_clamped : Vector3f → Clamped
 twist_clamped v = clamped_to body_vel_clamp_linear body_vel_clamp_angular v
 
-unfoldable pub accel_clamped : Vector3f → Clamped
+abbrev pub accel_clamped : Vector3f → Clamped
 accel_clamped v = clamped_to body_accel_clamp_linear body_accel_clamp_angular v

@@ -12,10 +12,10 @@ fields_equal (x ∷ xs) [] = false
 fields_equal (x ∷ xs) (y ∷ ys) = eq x y && fields_equal xs ys
 
 -- the same kind, and fields equal as floats
-unfoldable pub equal : ManeuverCommand → ManeuverCommand → Bool
+abbrev pub equal : ManeuverCommand → ManeuverCommand → Bool
 equal a b = mode_of a == mode_of b && fields_equal (fields_of a) (fields_of b)
 
 -- there is no previous command, or the two are not equal
-unfoldable pub command_changed : Option ManeuverCommand → ManeuverCommand → Bool
+abbrev pub command_changed : Option ManeuverCommand → ManeuverCommand → Bool
 command_changed None cmd = true
 command_changed (Some prev) cmd = not (equal prev cmd)

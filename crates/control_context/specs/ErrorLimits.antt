@@ -7,7 +7,7 @@ use Rattle.params.specs.declared.TrackingErrors.{TrackingErrors}
 use Rattle.params.specs.Params.{tracking_divergence_recovery_rest_wheel_vel}
 
 -- an error exceeds its limit; NaN exceeds nothing
-unfoldable pub any_exceeds : TrackingErrors → TrackingErrors → Bool
+abbrev pub any_exceeds : TrackingErrors → TrackingErrors → Bool
 any_exceeds e l =
     lt l.pos_linear e.pos_linear || lt l.pos_angular e.pos_angular
     || lt l.vel_linear e.vel_linear || lt l.vel_angular e.vel_angular
@@ -17,5 +17,5 @@ abbrev pub wheel_at_rest : Float → Bool
 wheel_at_rest w = lt (magnitude w) tracking_divergence_recovery_rest_wheel_vel
 
 -- every wheel is
-unfoldable pub at_rest : Vector4f → Bool
+abbrev pub at_rest : Vector4f → Bool
 at_rest w = wheel_at_rest w.x && wheel_at_rest w.y && wheel_at_rest w.z && wheel_at_rest w.w

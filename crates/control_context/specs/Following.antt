@@ -28,7 +28,7 @@ abbrev pub held_state : Option Sample → Option Vector6f
 held_state held = option_map (λ (s : Sample). s.state) held
 
 -- a sample is tracked; after it, the next sample is held and the command is the previous one
-unfoldable pub tracked : ControlContext → Sample → Sample → ManeuverCommand → Tracked
+abbrev pub tracked : ControlContext → Sample → Sample → ManeuverCommand → Tracked
 tracked c sample next cmd =
     let t = tracking_setpoints c.pose_pid c.state_estimate sample.state (dt_of c.start) in
     record { setpoints = t.setpoints; context = record c { memory = after_tracking next cmd; pose_pid = t.pid } }
@@ -40,7 +40,7 @@ followed_by NoVision c cmd fresh next = record { setpoints = zero_setpoints; con
 followed_by Keep c cmd fresh next = tracked c (unwrap_or c.memory.held fresh) next cmd
 followed_by (NewPlan seed) c cmd fresh next = tracked c fresh next cmd
 
-unfoldable pub followed : ControlContext → Planned → Sample → Sample → Tracked
+abbrev pub followed : ControlContext → Planned → Sample → Sample → Tracked
 followed c p fresh next = followed_by p.answer c p.cmd fresh next
 
 -- the sample that an answer tracks, if it tracks one. A keep with none held, which plan never answers, tracks the fresh one
@@ -59,7 +59,7 @@ tracked_sample p m fresh = sample_by p.answer m.held fresh
 abbrev pub recovery_of : ControlContext → Vector4f → RecoveryAnswer
 recovery_of c wheels = recovery c.divergence (held_state c.memory.held) c.state_estimate wheels
 
-unfoldable pub recovered : ControlContext → Vector4f → ControlContext
+abbrev pub recovered : ControlContext → Vector4f → ControlContext
 recovered c wheels = if (recovery_of c wheels).reset then context_reset c else record c { divergence = (recovery_of c wheels).state }
 
 -- ---- both

@@ -12,15 +12,15 @@ use Rattle.control_context.specs.declared.tracking.ManeuverSetpoints.{ManeuverSe
 use Rattle.params.specs.Params.{friction_comp_gating}
 
 -- gates 0.1 for the linear velocity and 0.5 for the linear acceleration, both inclusive
-unfoldable pub linear_comp_on : Vector3f → Vector3f → Bool
+abbrev pub linear_comp_on : Vector3f → Vector3f → Bool
 linear_comp_on vel accel = le friction_comp_gating.linear_accel (hypotenuse accel.x accel.y) || le friction_comp_gating.linear_vel (hypotenuse vel.x vel.y)
 
 -- gates 0.5 for the angular velocity and 1.0 for the angular acceleration, both inclusive
-unfoldable pub angular_comp_on : Vector3f → Vector3f → Bool
+abbrev pub angular_comp_on : Vector3f → Vector3f → Bool
 angular_comp_on vel accel = le friction_comp_gating.angular_accel (magnitude accel.z) || le friction_comp_gating.angular_vel (magnitude vel.z)
 
 -- an entry that is not on is 0.0
-unfoldable pub kept_if : Bool → Float → Float
+abbrev pub kept_if : Bool → Float → Float
 kept_if on x = if on then x else zero_float
 
 -- the twist in local axes, each entry kept where its gate is on; the gates judge the estimate's velocity and the acceleration, in local axes too

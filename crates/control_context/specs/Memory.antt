@@ -5,13 +5,13 @@ use Rattle.tick.specs.declared.sample.Sample.{Sample}
 use Rattle.control_context.specs.declared.memory.Memory.{Memory}
 
 -- trajectory and previous command dropped
-unfoldable pub empty_memory : Memory
+abbrev pub empty_memory : Memory
 empty_memory = record { held = None; prev_cmd = None }
 
 -- a planner failure drops the trajectory, and leaves the previous command
-unfoldable pub trajectory_dropped : Memory → Memory
+abbrev pub trajectory_dropped : Memory → Memory
 trajectory_dropped m = record m { held = None }
 
 -- after tracking, the next sample is held and the command is the previous one
-unfoldable pub after_tracking : Sample → ManeuverCommand → Memory
+abbrev pub after_tracking : Sample → ManeuverCommand → Memory
 after_tracking next cmd = record { held = Some next; prev_cmd = Some cmd }

@@ -21,11 +21,11 @@ abbrev pub holds : ℕ → Bool → Bool → Bool
 holds mode halt recovering = halt || recovering || nat_lt mode 2 || not (is_mode mode)
 
 -- hold drops trajectory and previous command and sets the previous mode to off
-unfoldable pub hold : Decision
+abbrev pub hold : Decision
 hold = record { answer = Hold; memory = empty_memory; prev_mode = 0 }
 
 -- else a changed mode drops both
-unfoldable pub in_mode : Memory → ℕ → ℕ → Memory
+abbrev pub in_mode : Memory → ℕ → ℕ → Memory
 in_mode m mode prev = if mode == prev then m else empty_memory
 
 -- plan anew if none is held or the command changed
@@ -38,7 +38,7 @@ seed_of None estimate = estimate
 seed_of (Some s) estimate = s.state
 
 -- modes 2 and 3: no vision without active vision, otherwise a new plan or keep
-unfoldable pub maneuver_answer : Memory → Bool → ManeuverCommand → Vector6f → PlanAnswer
+abbrev pub maneuver_answer : Memory → Bool → ManeuverCommand → Vector6f → PlanAnswer
 maneuver_answer m vision cmd estimate =
     if vision then (if plans_anew m cmd then NewPlan (seed_of m.held estimate) else Keep)
     else NoVision
@@ -49,7 +49,7 @@ decided mode halt recovering vision cmd m prev estimate =
     else record { answer = maneuver_answer (in_mode m mode prev) vision cmd estimate; memory = in_mode m mode prev; prev_mode = mode }
 
 -- the number of plan's answer
-unfoldable pub number_decided : ℕ → Bool → Bool → Bool → ManeuverCommand → Memory → ℕ → ℕ
+abbrev pub number_decided : ℕ → Bool → Bool → Bool → ManeuverCommand → Memory → ℕ → ℕ
 number_decided mode halt recovering vision cmd m prev =
     if holds mode halt recovering then 0
     else if vision then (if plans_anew (in_mode m mode prev) cmd then 3 else 2)

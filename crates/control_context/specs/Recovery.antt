@@ -19,7 +19,7 @@ pub record RecoveryAnswer : Type 0 where
   pub reset : Bool
 
 -- the errors of a sample's state beside the estimate, in the order of their limits; the headings' is wrapped
-unfoldable pub tracking_errors : Vector6f → Vector6f → TrackingErrors
+abbrev pub tracking_errors : Vector6f → Vector6f → TrackingErrors
 tracking_errors sample estimate =
     let pose = difference_of sample.pose estimate.pose in
     let twist = difference_of sample.twist estimate.twist in
@@ -31,7 +31,7 @@ tracking_errors sample estimate =
     }
 
 -- an error exceeds 1.0, 1.57, 5.0 or 10.0; with no sample held none does
-unfoldable pub tracking_error_exceeded : Option Vector6f → Vector6f → Bool
+abbrev pub tracking_error_exceeded : Option Vector6f → Vector6f → Bool
 tracking_error_exceeded None estimate = false
 tracking_error_exceeded (Some sample) estimate = any_exceeds (tracking_errors sample estimate) tracking_error_threshold
 

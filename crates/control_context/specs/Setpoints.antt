@@ -14,7 +14,7 @@ use Rattle.controllers.specs.PidAxes.{calculated_with_derivative}
 use Rattle.control_context.specs.declared.tracking.ManeuverSetpoints.{ManeuverSetpoints}
 
 -- what hold and no vision give
-unfoldable pub zero_setpoints : ManeuverSetpoints
+abbrev pub zero_setpoints : ManeuverSetpoints
 zero_setpoints = record { body_twist = zeros3; body_accel = zeros3 }
 
 -- `pose_pid_controller`: the linear gains for x and y, the angular ones for the heading, a threshold for each axis, and no limits
@@ -26,15 +26,15 @@ pose_pid =
     ∷ []
 
 -- the sample's place, its heading the one within half a turn of the estimate's
-unfoldable pub wrapped : Vector3f → Vector3f → Vector3f
+abbrev pub wrapped : Vector3f → Vector3f → Vector3f
 wrapped pos pose = record pos { z = add binary32 pose.z (remainder_by binary32 (sub binary32 pos.z pose.z) tau) }
 
 -- 1.0·velocity + 0.0, so that -0.0 becomes 0.0
-unfoldable pub twist_setpoint : Vector3f → Vector3f
+abbrev pub twist_setpoint : Vector3f → Vector3f
 twist_setpoint vel = sum_of (scaled vel pose_vel_feedforward_gain) zeros3
 
 -- 0.0 + 1.0·feedback, so that -0.0 becomes 0.0
-unfoldable pub accel_setpoint : Vector3f → Vector3f
+abbrev pub accel_setpoint : Vector3f → Vector3f
 accel_setpoint feedback = sum_of zeros3 (scaled feedback pose_accel_feedback_gain)
 
 -- setpoints, and what the PID remembers after them

@@ -42,7 +42,6 @@ pub struct Planned {
 
 impl ControlContext {
     /// A context around this estimate: the wheels are disabled, and the previous mode is off.
-    #[tactic(auto, unfolding(crate::specs::Context::new_context))]
     pub fn new(start: Start, state_estimate: Vector6f) -> ControlContext
         ensures { result ≡ new_context start state_estimate }
     {
@@ -59,7 +58,6 @@ impl ControlContext {
     }
 
     /// Where recovery ends: the estimate, the previous mode and the wheels' disabled mark stay.
-    #[tactic(auto, unfolding(crate::specs::Context::context_reset))]
     pub fn reset(&mut self)
         ensures { self.new ≡ context_reset self.old }
     {
@@ -70,7 +68,6 @@ impl ControlContext {
     }
 
     /// A planner failure drops the trajectory.
-    #[tactic(auto, unfolding(crate::specs::Context::planner_failed, crate::specs::Memory::trajectory_dropped))]
     pub fn fail_plan(&mut self)
         ensures { self.new ≡ planner_failed self.old }
     {
@@ -108,7 +105,7 @@ impl ControlContext {
     }
 
     // `run_traj_track`, on a sample of the trajectory and the next tick's.
-    #[tactic(auto, unfolding(crate::specs::Following::followed, crate::specs::Following::tracked, crate::specs::Setpoints::zero_setpoints, linear::specs::Vector::zeros3))]
+    #[tactic(auto, unfolding(linear::specs::Vector::zeros3))]
     fn run_traj_track(&mut self, planned: Planned, fresh: Sample, next: Sample) -> ManeuverSetpoints
         ensures { let t = followed self.old planned fresh next in (result ≡ t.setpoints) × (self.new ≡ t.context) }
     {

@@ -10,7 +10,6 @@ use linear::rotation::Rotation;
 use linear::{Vector3f, Vector6f};
 use params::FRICTION_COMP_GATING;
 
-#[tactic(auto, unfolding(crate::specs::Friction::linear_comp_on))]
 fn linear_comp_on(vel: Vector3f, accel: Vector3f) -> bool
     ensures { result ≡ linear_comp_on vel accel }
 {
@@ -18,7 +17,6 @@ fn linear_comp_on(vel: Vector3f, accel: Vector3f) -> bool
         | (hypot(vel.x, vel.y) >= FRICTION_COMP_GATING.linear_vel)
 }
 
-#[tactic(auto, unfolding(crate::specs::Friction::angular_comp_on))]
 fn angular_comp_on(vel: Vector3f, accel: Vector3f) -> bool
     ensures { result ≡ angular_comp_on vel accel }
 {
@@ -26,7 +24,6 @@ fn angular_comp_on(vel: Vector3f, accel: Vector3f) -> bool
         | (abs(vel.z) >= FRICTION_COMP_GATING.angular_vel)
 }
 
-#[tactic(auto, unfolding(crate::specs::Friction::kept_if))]
 fn kept_if(on: bool, x: f32) -> f32
     ensures { result ≡ kept_if on x }
 {

@@ -35,7 +35,6 @@ fn clamp_to(linear: f32, angular: f32, v: Vector3f) -> Clamped
 }
 
 /// A twist, in m/s and rad/s, within the bounds of the velocity.
-#[tactic(auto, unfolding(crate::specs::Clamped::twist_clamped))]
 pub fn clamp_twist(body_twist: Vector3f) -> Clamped
     ensures { result ≡ twist_clamped body_twist }
 {
@@ -43,7 +42,6 @@ pub fn clamp_twist(body_twist: Vector3f) -> Clamped
 }
 
 /// An acceleration, in m/s² and rad/s², within its bounds.
-#[tactic(auto, unfolding(crate::specs::Clamped::accel_clamped))]
 pub fn clamp_accel(body_accel: Vector3f) -> Clamped
     ensures { result ≡ accel_clamped body_accel }
 {

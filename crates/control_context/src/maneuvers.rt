@@ -41,16 +41,16 @@ impl PlanAnswer {
 
 /// The Rust's derived equality: the same kind, and the fields equal as floats. A NaN equals nothing, and -0.0
 /// equals 0.0.
-#[tactic(auto, unfolding(crate::specs::Equality::equal, crate::specs::Equality::fields_equal))]
+#[tactic(auto, unfolding(crate::specs::Equality::fields_equal))]
 pub fn commands_equal(c: ManeuverCommand, o: ManeuverCommand) -> bool
     ensures { result ≡ equal c o }
 {
     c == o
 }
 
-/// Whether the command is another than the previous one, or there was none.
-#[tactic(auto, unfolding(crate::specs::Equality::command_changed, crate::specs::Equality::equal, crate::specs::Equality::fields_equal))]
-pub fn command_changed(prev_cmd: Option<ManeuverCommand>, cmd: ManeuverCommand) -> bool
+// Whether the command is another than the previous one, or there was none.
+#[tactic(auto, unfolding(crate::specs::Equality::fields_equal))]
+pub(crate) fn command_changed(prev_cmd: Option<ManeuverCommand>, cmd: ManeuverCommand) -> bool
     ensures { result ≡ command_changed prev_cmd cmd }
 {
     prev_cmd != Some(cmd)
@@ -58,7 +58,6 @@ pub fn command_changed(prev_cmd: Option<ManeuverCommand>, cmd: ManeuverCommand) 
 
 impl ControlContext {
     // What modes 2 and 3 answer: without vision nothing is tracked.
-    #[tactic(auto, unfolding(crate::specs::Plan::maneuver_answer))]
     fn maneuver_answer(&self, cmd: ManeuverCommand) -> PlanAnswer
         ensures { result
             ≡ maneuver_answer self.now.memory (active self.now.vision.time_since_vision_update_s) cmd
@@ -77,7 +76,7 @@ impl ControlContext {
     }
 
     // The one decision. A number that is no mode holds: callers refuse it first.
-    #[tactic(auto, unfolding(crate::specs::Plan::decided, crate::specs::Plan::hold, crate::specs::Plan::in_mode))]
+    #[tactic(auto, unfolding(crate::specs::Plan::decided))]
     fn plan_answer(&mut self, mode: u32, halt: bool, cmd: ManeuverCommand) -> PlanAnswer
         ensures { let d = decision_on self.old mode halt cmd self.old.state_estimate in
             (result ≡ d.answer) × (self.new ≡ record self.old { memory = d.memory; prev_mode = d.prev_mode }) }
@@ -99,7 +98,7 @@ impl ControlContext {
     }
 
     /// Sets the estimate, and decides on the command.
-    #[tactic(auto, unfolding(crate::specs::Decision::decided_on, crate::specs::Plan::number_decided, crate::specs::Plan::decided, crate::specs::Plan::maneuver_answer, crate::specs::Plan::hold))]
+    #[tactic(auto, unfolding(crate::specs::Decision::decided_on, crate::specs::Plan::decided))]
     pub fn decide(
         &mut self,
         mode: u32,

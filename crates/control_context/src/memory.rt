@@ -15,7 +15,6 @@ pub struct Memory {
 
 impl Memory {
     /// Nothing remembered: at the start, and what `reset_trajectory` leaves.
-    #[tactic(auto, unfolding(crate::specs::Memory::empty_memory))]
     pub fn empty() -> Memory
         ensures { result ≡ empty_memory }
     {
@@ -26,7 +25,6 @@ impl Memory {
     }
 
     /// What `run_traj_track` leaves: the sample of the next tick, and the command that was tracked.
-    #[tactic(auto, unfolding(crate::specs::Memory::after_tracking))]
     pub fn after_tracking(next: Sample, cmd: ManeuverCommand) -> Memory
         ensures { result ≡ after_tracking next cmd }
     {

@@ -34,7 +34,6 @@ impl TrackingDivergenceState {
 }
 
 // NaN exceeds nothing.
-#[tactic(auto, unfolding(crate::specs::ErrorLimits::any_exceeds))]
 fn any_exceeds(error: TrackingErrors, limit: TrackingErrors) -> bool
     ensures { result ≡ any_exceeds error limit }
 {
@@ -46,7 +45,6 @@ fn any_exceeds(error: TrackingErrors, limit: TrackingErrors) -> bool
 
 // Every wheel is at rest; a NaN is not. One such tick is enough, as
 // TRACKING_DIVERGENCE_RECOVERY_REST_TICKS is 1.
-#[tactic(auto, unfolding(crate::specs::ErrorLimits::at_rest))]
 fn at_rest(wheels: Vector4f) -> bool
     ensures { result ≡ at_rest wheels }
 {
@@ -57,7 +55,6 @@ fn at_rest(wheels: Vector4f) -> bool
 }
 
 // How far a sample's state and the estimate are apart.
-#[tactic(auto, unfolding(crate::specs::Recovery::tracking_errors))]
 fn tracking_errors(traj_state: Vector6f, estimate: Vector6f) -> TrackingErrors
     ensures { result ≡ tracking_errors traj_state estimate }
 {
@@ -73,7 +70,6 @@ fn tracking_errors(traj_state: Vector6f, estimate: Vector6f) -> TrackingErrors
 
 impl ControlContext {
     // No error without a sample.
-    #[tactic(auto, unfolding(crate::specs::Recovery::tracking_error_exceeded))]
     fn tracking_error_exceeded(&self) -> bool
         ensures { result ≡ tracking_error_exceeded (held_state self.now.memory.held) self.now.state_estimate }
     {
@@ -86,9 +82,9 @@ impl ControlContext {
         }
     }
 
-    /// Judged on the sample that is held by now, and on the wheels' measured speeds in rad/s.
-    #[tactic(auto, unfolding(crate::specs::Following::recovered, crate::specs::Recovery::recovery))]
-    pub fn update_tracking_divergence_recovery(&mut self, wheel_vel_meas: Vector4f)
+    // Judged on the sample that is held by now, and on the wheels' measured speeds in rad/s.
+    #[tactic(auto, unfolding(crate::specs::Recovery::recovery))]
+    pub(crate) fn update_tracking_divergence_recovery(&mut self, wheel_vel_meas: Vector4f)
         ensures { self.new ≡ recovered self.old wheel_vel_meas }
     {
         match self.divergence {

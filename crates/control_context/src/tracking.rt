@@ -48,7 +48,6 @@ const POSE_PID: [PidSettings; 3] = [
 ];
 
 // pos with its heading wrapped to within half a turn of pose's: the PID must not turn the long way.
-#[tactic(auto, unfolding(crate::specs::Setpoints::wrapped))]
 fn wrapped(pos: Vector3f, pose: Vector3f) -> Vector3f
     ensures { result ≡ wrapped pos pose }
 {
@@ -62,7 +61,7 @@ fn wrapped(pos: Vector3f, pose: Vector3f) -> Vector3f
 }
 
 // Feedforward alone: the feedback's term is zeros, and adding them turns -0.0 into 0.0.
-#[tactic(auto, unfolding(crate::specs::Setpoints::twist_setpoint, linear::specs::Vector::zeros3))]
+#[tactic(auto, unfolding(linear::specs::Vector::zeros3))]
 fn twist_setpoint(traj_vel: Vector3f) -> Vector3f
     ensures { result ≡ twist_setpoint traj_vel }
 {
@@ -70,7 +69,7 @@ fn twist_setpoint(traj_vel: Vector3f) -> Vector3f
 }
 
 // Feedback alone: the feedforward's term is zeros.
-#[tactic(auto, unfolding(crate::specs::Setpoints::accel_setpoint, linear::specs::Vector::zeros3))]
+#[tactic(auto, unfolding(linear::specs::Vector::zeros3))]
 fn accel_setpoint(feedback: Vector3f) -> Vector3f
     ensures { result ≡ accel_setpoint feedback }
 {
@@ -78,10 +77,10 @@ fn accel_setpoint(feedback: Vector3f) -> Vector3f
 }
 
 impl ControlContext {
-    /// The setpoints that lead from the estimate to a trajectory's state. The trajectory's acceleration has no
-    /// part in them: POSE_ACCEL_MODE is feedback alone.
+    // The setpoints that lead from the estimate to a trajectory's state. The trajectory's acceleration has no
+    // part in them: POSE_ACCEL_MODE is feedback alone.
     #[tactic(auto, unfolding(crate::specs::Setpoints::tracking_setpoints))]
-    pub fn calc_tracking_setpoints(&mut self, traj_state: Vector6f) -> ManeuverSetpoints
+    pub(crate) fn calc_tracking_setpoints(&mut self, traj_state: Vector6f) -> ManeuverSetpoints
         ensures { let c = self.old in
             let t = tracking_setpoints c.pose_pid c.state_estimate traj_state (dt_of c.start) in
             (result ≡ t.setpoints) × (self.new ≡ record c { pose_pid = t.pid }) }

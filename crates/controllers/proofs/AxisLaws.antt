@@ -17,7 +17,6 @@ use Rattle.controllers.specs.PidLaws.{Bounded, Ordered, Inside}
 -- ---- the integrated error
 
 integrated-between : (g : PidGains) (m : AxisMemory) (e dt : Float) → T (le g.ki_err_min g.ki_err_max) → T (le g.ki_err_min (integrated g m e dt)) × T (le (integrated g m e dt) g.ki_err_max)
-unfolding integrated
 integrated-between g m e dt h = clamp_between_lem _ g.ki_err_min g.ki_err_max h
 
 response_bounded : (c : PidSettings) (m : AxisMemory) (e d dt : Float) → Bounded c m → Bounded c (response c m e d dt).memory

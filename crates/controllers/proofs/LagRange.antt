@@ -16,7 +16,7 @@ unfolding in_range
 castable_in x t = (and_l (lt (fin true 1 (pos 0)) x) (lt x (fin false 1 (pos 64))) t, and_r (lt (fin true 1 (pos 0)) x) (lt x (fin false 1 (pos 64))) t)
 
 swept : T (every_to (λ k. in_range (horizon_over (dt_of k))) 64)
-unfolding in_range horizon_over dt_of duration_to_secs micros_of of_int of_bits add mul div lt
+unfolding in_range horizon_over duration_to_secs micros_of of_int of_bits add mul div lt
 swept = tt
 
 pub horizon_castable : (k : ℕ) → IsTickLength k → Castable (horizon_over (dt_of k))

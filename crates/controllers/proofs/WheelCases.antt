@@ -9,7 +9,7 @@ use Rattle.ieee754.specs.Clamp.{clamp_between}
 use Rattle.linear.specs.Vector.{zero_float}
 use Rattle.tick.specs.TickLength.{is_tick_length, seconds_of}
 use Rattle.tick.proofs.TickLengthSweep.{every_to, at_tick_length}
-use Rattle.controllers.specs.Axis.{anti_jitter, limited, integrated, weighted, response, one_calculated, no_memory}
+use Rattle.controllers.specs.Axis.{anti_jitter, limited, response, one_calculated, no_memory}
 use Rattle.controllers.specs.Brake.{wheel_settings}
 
 -- the bits of the current that a fresh brake gives one wheel at the tick length k
@@ -26,7 +26,7 @@ as_worked_out k =
 
 -- at every tick length
 sweep : T (every_to as_worked_out 64)
-unfolding as_worked_out fresh_current wheel_settings one_calculated response limited anti_jitter integrated weighted no_memory seconds_of magnitude clamp_between add sub mul div neg lt to_bits of_bits of_int size round
+unfolding as_worked_out fresh_current wheel_settings one_calculated response limited anti_jitter no_memory seconds_of magnitude clamp_between add sub mul div neg lt to_bits of_bits of_int size round
 sweep = tt
 
 pub fresh_brake : (k : ℕ) → is_tick_length k ≡ true → T (as_worked_out k)

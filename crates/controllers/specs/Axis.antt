@@ -25,11 +25,11 @@ limited None out = out
 limited (Some w) out = clamp_between out w.0 w.1
 
 -- the integrated error after an error e over dt, within its bounds
-unfoldable pub integrated : PidGains → AxisMemory → Float → Float → Float
+abbrev pub integrated : PidGains → AxisMemory → Float → Float → Float
 integrated g m e dt = clamp_between (add binary32 m.integrated_error (mul binary32 e dt)) g.ki_err_min g.ki_err_max
 
 -- p + i + d
-unfoldable pub weighted : PidGains → Float → Float → Float → Float
+abbrev pub weighted : PidGains → Float → Float → Float → Float
 weighted g e i d = add binary32 (add binary32 (mul binary32 g.kp e) (mul binary32 g.ki i)) (mul binary32 g.kd d)
 
 -- the answer to an error e with the derivative d

@@ -26,7 +26,7 @@ unfoldable pub n_steps_of : Float → ℕ
 n_steps_of dt = max 1 (to_unsigned 64 (horizon_over dt))
 
 -- the lag's dt in seconds: floor(15625 * k / 64) microseconds
-unfoldable pub dt_of : ℕ → Float
+abbrev pub dt_of : ℕ → Float
 dt_of k = duration_to_secs (micros_of k)
 
 -- the lag at rest, both axes alike

@@ -65,7 +65,7 @@ impl AxisMemory {
         self.calculate_with_derivative(settings, setpoint, process_variable, de_dt, dt_s)
     }
 
-    #[tactic(auto, unfolding(crate::specs::Axis::one_with_derivative, crate::specs::Axis::response, crate::specs::Axis::integrated, crate::specs::Axis::weighted))]
+    #[tactic(auto, unfolding(crate::specs::Axis::one_with_derivative, crate::specs::Axis::response))]
     fn calculate_with_derivative(
         &mut self,
         settings: &PidSettings,
@@ -143,7 +143,8 @@ impl<const N: usize> PidMemory<N> {
         derivative: [f32; N],
         dt_s: f32,
     ) -> [f32; N]
-        ensures { let a = calculated_with_derivative settings.now self.old setpoint.entry process_variable.entry derivative.entry dt_s in
+        ensures { let a = calculated_with_derivative settings.now self.old setpoint.entry
+            process_variable.entry derivative.entry dt_s in
             (result ≡ a.output) × (self.new ≡ a.memory) }
     {
         let mut output = [0.0; N];

@@ -1,7 +1,8 @@
 //! What is proved of controllers over calls: functions that do nothing, for their clauses.
 
-ghost use Rattle.controllers.specs.PidLaws.{AxesAreApart, CallsKeepIntegralBounded, IntegralIsBounded, OutputsAreLimited};
-ghost use Rattle.controllers.specs.PidLaws.{NanIsLowerLimit, ResetIsNew, OutputIsScaledBelow, OutputStaysFrom};
+ghost use Rattle.controllers.specs.PidLaws.{AxesAreApart, CallsKeepIntegralBounded, IntegralIsBounded};
+ghost use Rattle.controllers.specs.PidLaws.{OutputsAreLimited, NanIsLowerLimit, ResetIsNew};
+ghost use Rattle.controllers.specs.PidLaws.{OutputIsScaledBelow, OutputStaysFrom};
 ghost use Rattle.controllers.specs.PidLaws.{AxesCalculateAsList, AxesCalculateWithDerivativeAsList, AxesResetAsList};
 
 /// The axes do not touch each other, over any list of calls.

@@ -3,7 +3,7 @@ use Rattle.std.specs.Prelude.{ℕ, List}
 use Rattle.linear.specs.Vector.{zeros4, entries4, vector4_of}
 use Rattle.controllers.specs.declared.active_brake.ActiveBrakeController.{ActiveBrakeController}
 use Rattle.controllers.specs.Brake.{BrakeAnswer, computed, reset_brake, memory_of}
-use Rattle.tick_block.specs.Word.{word_at}
+use Rattle.tick_block.specs.Words.{word_at}
 use Rattle.tick_block.specs.Floats.{floats_at}
 use Rattle.replay_controllers.specs.Words.{Told, words_of}
 use Rattle.replay_controllers.specs.Kinds.{by_kind2}

@@ -6,7 +6,7 @@ use Rattle.controllers.specs.declared.first_order_lag.FirstOrderLag.{FirstOrderL
 use Rattle.tick.specs.declared.refusal.Refusal.{Refusal}
 use Rattle.controllers.specs.EncoderLag.{lag_of}
 use Rattle.controllers.specs.FirstOrderLag.{stepped_of, inverted_of, reset_of}
-use Rattle.tick_block.specs.Word.{word_at}
+use Rattle.tick_block.specs.Words.{word_at}
 use Rattle.tick_block.specs.Floats.{floats_at}
 use Rattle.replay_controllers.specs.Words.{Told, word}
 use Rattle.replay_controllers.specs.Kinds.{by_kind3}

@@ -5,7 +5,7 @@ use Rattle.linear.specs.Vector.{zero_float}
 use Rattle.params.specs.declared.PidGains.{PidGains}
 use Rattle.controllers.specs.declared.pid.PidSettings.{PidSettings}
 use Rattle.controllers.specs.PidAxes.{PidAnswer, new_memory, calculated, calculated_with_derivative}
-use Rattle.tick_block.specs.Word.{word_at}
+use Rattle.tick_block.specs.Words.{word_at}
 use Rattle.tick_block.specs.Floats.{float_at, floats_at}
 use Rattle.replay_controllers.specs.declared.pids.Pid.{Pid}
 use Rattle.replay_controllers.specs.Words.{Told, words_of}

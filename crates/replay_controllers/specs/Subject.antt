@@ -2,7 +2,7 @@
 use Rattle.std.specs.Prelude.{ℕ, List, Option, Some, option_map}
 use Rattle.std.specs.Result.{result_ok}
 use Rattle.controllers.specs.Brake.{brake_of}
-use Rattle.tick_block.specs.Word.{word_at}
+use Rattle.tick_block.specs.Words.{word_at}
 use Rattle.replay_controllers.specs.declared.layout.ListOf.{ListOf}
 use Rattle.replay_controllers.specs.declared.layout.ListOf.TheVariants as list
 use Rattle.replay_controllers.specs.declared.subject.Subject.{Subject}

@@ -90,10 +90,9 @@ impl<const N: usize> Pid<N> {
         ensures { let a = answer self.old call.now in
             (result ≡ a.output) × (self.new ≡ record self.old { memory = a.memory }) }
     {
-        let n = N as u8;
         let setpoint = floats_at(call, 1);
-        let process = floats_at(call, 1 + n);
-        let derivative = floats_at(call, 1 + 2 * n);
+        let process = floats_at(call, 1 + N);
+        let derivative = floats_at(call, 1 + 2 * N);
         let dt = float_at(call, 1 + 3 * N);
         match word_at(call, 0) {
             0 => self.memory.calculate(&self.settings, setpoint, process, dt),

@@ -15,7 +15,7 @@ use Rattle.tick.specs.Start.{dt_of}
 use Rattle.vision.specs.declared.Vision.{Vision}
 use Rattle.tick.specs.Outcome.{takes}
 use Rattle.vision.specs.Gate.{distance}
-use Rattle.vision.specs.Vision.{active, clock_after, new_vision, vision_after}
+use Rattle.vision.specs.Vision.{active, new_vision, vision_after}
 use Rattle.vision.specs.Since.{since_taken, clock_since}
 use Rattle.vision.proofs.Outcomes.{taken_restarts, refused_waits}
 use Rattle.vision.proofs.Clock.{since_taken_lem, since_reset, reset_stands}
@@ -32,7 +32,7 @@ module _ (v : Vision) (sighting : Option Vector3f) (predicted : Vector6f) (start
 
   -- a tick that takes a sighting
   pub taken_held : taking ≡ true → Held start.tick_length 0 next
-  unfolding vision_after clock_after since_taken clock_since
+  unfolding vision_after since_taken clock_since
   taken_held e = record { tracking = taken_restarts v.gate sighting predicted start e; clock = rw e }
 
   -- a tick that takes none
@@ -46,7 +46,6 @@ module _ (v : Vision) (sighting : Option Vector3f) (predicted : Vector6f) (start
 
 -- none is held at first
 pub new_unheld : Unheld new_vision
-unfolding new_vision
 new_unheld = refl
 
 -- the active mark

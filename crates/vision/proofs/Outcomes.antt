@@ -20,14 +20,13 @@ use Rattle.tick.specs.declared.start.Start.{Start}
 use Rattle.tick.specs.Start.{dt_of}
 use Rattle.tick.specs.Outcome.{takes}
 use Rattle.vision.specs.Seeding.{Seeding, fresh_seeding, gathered, deviation_x, deviation_y, steady}
-use Rattle.vision.specs.Gate.{seeding_judged, distance, radius, tracking_judged, sighting_judged, quiet, judged}
+use Rattle.vision.specs.Gate.{seeding_judged, distance, radius, tracking_judged, judged}
 use Rattle.vision.specs.Laws.{Taken, Waiting, Seeded}
 
 -- ---- tracking
 
 -- strictly inside the radius
 pub inside_taken : (t d dt : Float) → lt d (radius t) ≡ true → Taken (tracking_judged t d dt)
-unfolding tracking_judged
 inside_taken t d dt h = rw h (jump_or_accept (le vision_gate_base_radius_m d), refl)
   where
     jump_or_accept : (far : Bool) → takes (cond far AcceptJump Accept) ≡ true
@@ -36,7 +35,6 @@ inside_taken t d dt h = rw h (jump_or_accept (le vision_gate_base_radius_m d), r
 
 -- otherwise
 pub outside_waits : (t d dt : Float) → lt d (radius t) ≡ false → Waiting t dt (tracking_judged t d dt)
-unfolding tracking_judged
 outside_waits t d dt h = rw h (first_or_later (eq t zero_float), refl)
   where
     first_or_later : (first : Bool) → takes (cond first FirstReject Reject) ≡ false
@@ -59,7 +57,6 @@ tracking_either t d dt = go (lt d (radius t)) refl
 -- ---- seeding
 
 pub seeding_either : (s : Seeding) → Seeded s
-unfolding seeding_judged
 seeding_either s = go (ltb s.n vision_seed_samples) (steady s) refl refl
   where
     go : (few still : Bool) → ltb s.n vision_seed_samples ≡ few → steady s ≡ still → Seeded s
@@ -69,7 +66,7 @@ seeding_either s = go (ltb s.n vision_seed_samples) (steady s) refl refl
 
 -- a NaN deviation is not steady
 nan_unsteady : (s : Seeding) → (deviation_x s ≡ nan) ⊎ (deviation_y s ≡ nan) → steady s ≡ false
-unfolding steady lt
+unfolding lt
 nan_unsteady s (inl z) = rw z
 nan_unsteady s (inr z) = rw z (never (lt (deviation_x s) vision_seed_pos_std_thresh_m))
   where
@@ -79,7 +76,6 @@ nan_unsteady s (inr z) = rw z (never (lt (deviation_x s) vision_seed_pos_std_thr
 
 -- so at the 20th it gives S
 pub nan_reseeds : (s : Seeding) → vision_seed_samples ≤ s.n → (deviation_x s ≡ nan) ⊎ (deviation_y s ≡ nan) → seeding_judged s ≡ record { action = SeedReset; gate = Gate.Seeding fresh_seeding }
-unfolding seeding_judged
 nan_reseeds s h z = rw (le-ltb s.n vision_seed_samples h, nan_unsteady s z)
 
 -- ---- the gate after a tick
@@ -89,7 +85,7 @@ clash e = absurd (true≢false e)
 
 -- a taken sighting leaves any gate tracking at 0.0
 pub taken_restarts : (g : VisionGateState) (sighting : Option Vector3f) (p : Vector6f) (start : Start) → takes (judged g sighting p start).action ≡ true → (judged g sighting p start).gate ≡ Gate.Tracking zero_float
-unfolding judged sighting_judged
+unfolding judged
 taken_restarts g None p start e = clash (sym e)
 taken_restarts (Gate.Seeding s) (Some v) p start e =
     elim (seeding_either (gathered s v)) [ inl w ↦ clash (sym e ∙ ap (λ (j : Judgement). takes j.action) w.1) | inr (inl w) ↦ ap (λ (j : Judgement). j.gate) w | inr (inr w) ↦ clash (sym e ∙ ap (λ (j : Judgement). takes j.action) w) ]
@@ -97,7 +93,7 @@ taken_restarts (Gate.Tracking t) (Some v) p start e = elim (tracking_either t (d
 
 -- a tracking gate that takes nothing adds dt to its t, with a sighting or without
 pub refused_waits : (t : Float) (sighting : Option Vector3f) (p : Vector6f) (start : Start) → takes (judged (Gate.Tracking t) sighting p start).action ≡ false → (judged (Gate.Tracking t) sighting p start).gate ≡ Gate.Tracking (add binary32 t (dt_of start))
-unfolding judged sighting_judged quiet
+unfolding judged
 refused_waits t None p start e = refl
 refused_waits t (Some v) p start e = elim (tracking_either t (distance v p) (dt_of start)) [ inl w ↦ clash (sym w.0 ∙ e) | inr w ↦ w.1 ]
 
@@ -108,7 +104,7 @@ Seeds (Gate.Tracking t) = ⊥
 
 -- seeds on where nothing is taken: only C starts tracking
 pub refused_seeds : (g : VisionGateState) (sighting : Option Vector3f) (p : Vector6f) (start : Start) → Seeds g → takes (judged g sighting p start).action ≡ false → Seeds (judged g sighting p start).gate
-unfolding judged sighting_judged quiet
+unfolding judged
 refused_seeds (Gate.Tracking t) sighting p start h e = absurd h
 refused_seeds (Gate.Seeding s) None p start h e = tt
 refused_seeds (Gate.Seeding s) (Some v) p start h e =
@@ -122,12 +118,11 @@ Small (Gate.Seeding s) = s.n < vision_seed_samples
 Small (Gate.Tracking t) = Unit {0}
 
 pub fresh_small : Small (Gate.Seeding fresh_seeding)
-unfolding fresh_seeding
 fresh_small = lit< tt
 
 -- every tick keeps it
 pub stays_small : (g : VisionGateState) (sighting : Option Vector3f) (p : Vector6f) (start : Start) → Small g → Small (judged g sighting p start).gate
-unfolding judged sighting_judged quiet
+unfolding judged
 stays_small (Gate.Seeding s) None p start h = h
 stays_small (Gate.Tracking t) None p start h = tt
 stays_small (Gate.Seeding s) (Some v) p start h = elim (seeding_either (gathered s v)) [ inl w ↦ rw w.1 w.0 | inr (inl w) ↦ rw w tt | inr (inr w) ↦ rw w fresh_small ]

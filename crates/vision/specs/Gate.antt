@@ -23,7 +23,7 @@ pub record Judgement : Type 0 where
 -- ---- seeding
 
 -- below the 20th sighting it gathers on; at the 20th it tracks from 0.0 if both deviations are small, and else starts anew
-unfoldable pub seeding_judged : Seeding → Judgement
+abbrev pub seeding_judged : Seeding → Judgement
 seeding_judged s =
     if nat_lt s.n vision_seed_samples then record { action = Accumulate; gate = Gate.Seeding s }
     else if steady s then record { action = SeedComplete; gate = Gate.Tracking zero_float }
@@ -32,16 +32,16 @@ seeding_judged s =
 -- ---- tracking
 
 -- from the predicted place, in x and y
-unfoldable pub distance : Vector3f → Vector6f → Float
+abbrev pub distance : Vector3f → Vector6f → Float
 distance v p = hypotenuse (sub binary32 v.x p.pose.x) (sub binary32 v.y p.pose.y)
 
 -- the base, and 2.0 m more for each second of t
-unfoldable pub radius : Float → Float
+abbrev pub radius : Float → Float
 radius t = add binary32 vision_gate_base_radius_m (mul binary32 vision_gate_expand_rate_m_per_s t)
 
 -- strictly inside the radius the sighting is taken, beyond the base as a jump, and t is 0.0 again; else it is refused, first
 -- where t is 0.0, and t grows by dt. A NaN distance is not inside.
-unfoldable pub tracking_judged : Float → Float → Float → Judgement
+abbrev pub tracking_judged : Float → Float → Float → Judgement
 tracking_judged t d dt =
     if lt d (radius t) then record { action = if le vision_gate_base_radius_m d then AcceptJump else Accept; gate = Gate.Tracking zero_float }
     else record { action = if eq t zero_float then FirstReject else Reject; gate = Gate.Tracking (add binary32 t dt) }
@@ -49,12 +49,12 @@ tracking_judged t d dt =
 -- ---- one tick
 
 -- a sighting v, with the predicted state p
-unfoldable pub sighting_judged : VisionGateState → Vector3f → Vector6f → Float → Judgement
+abbrev pub sighting_judged : VisionGateState → Vector3f → Vector6f → Float → Judgement
 sighting_judged (Gate.Seeding s) v p dt = seeding_judged (gathered s v)
 sighting_judged (Gate.Tracking t) v p dt = tracking_judged t (distance v p) dt
 
 -- no sighting: only a tracking gate's t grows
-unfoldable pub quiet : VisionGateState → Float → VisionGateState
+abbrev pub quiet : VisionGateState → Float → VisionGateState
 quiet (Gate.Seeding s) dt = Gate.Seeding s
 quiet (Gate.Tracking t) dt = Gate.Tracking (add binary32 t dt)
 

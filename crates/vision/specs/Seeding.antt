@@ -15,11 +15,11 @@ pub record Seeding : Type 0 where
   pub pos_sq_sum : Vector2f
 
 -- nothing gathered
-unfoldable pub fresh_seeding : Seeding
+abbrev pub fresh_seeding : Seeding
 fresh_seeding = record { n = 0; pos_sum = zeros2; pos_sq_sum = zeros2 }
 
 -- n and the four sums grow: of x and y, and of their squares
-unfoldable pub gathered : Seeding → Vector3f → Seeding
+abbrev pub gathered : Seeding → Vector3f → Seeding
 gathered s v = record {
   n = s.n + 1;
   pos_sum = record { x = add binary32 s.pos_sum.x v.x; y = add binary32 s.pos_sum.y v.y };
@@ -30,7 +30,7 @@ gathered s v = record {
 }
 
 -- the deviation of n samples: the root of the mean square less the mean's square. A variance below zero has the root NaN.
-unfoldable pub deviation : Float → Float → Float → Float
+abbrev pub deviation : Float → Float → Float → Float
 deviation sum squares n =
     let mean = div binary32 sum n in
     square_root binary32 (sub binary32 (div binary32 squares n) (mul binary32 mean mean))
@@ -42,9 +42,9 @@ abbrev pub deviation_y : Seeding → Float
 deviation_y s = deviation s.pos_sum.y s.pos_sq_sum.y (of_int binary32 (pos s.n))
 
 -- both deviations are strictly below 0.03 m; a NaN is below nothing
-unfoldable pub steady : Seeding → Bool
+abbrev pub steady : Seeding → Bool
 steady s = lt (deviation_x s) vision_seed_pos_std_thresh_m && lt (deviation_y s) vision_seed_pos_std_thresh_m
 
 -- the seeding that stays after it has gathered: at the 20th sighting a fresh one
-unfoldable pub kept_seeding : Seeding → Seeding
+abbrev pub kept_seeding : Seeding → Seeding
 kept_seeding s = if nat_lt s.n vision_seed_samples then s else fresh_seeding

@@ -16,15 +16,15 @@ use Rattle.vision.specs.Seeding.{fresh_seeding}
 use Rattle.vision.specs.Gate.{judged}
 
 -- the cameras are active: the clock is at most 0.5 s
-unfoldable pub active : Float → Bool
+abbrev pub active : Float → Bool
 active clock = le clock vision_active_timeout_s
 
 -- 0.0 after a taken sighting; else the clock runs by dt while it is at most 0.5 s, and then stands
-unfoldable pub clock_after : Float → Bool → Float → Float
+abbrev pub clock_after : Float → Bool → Float → Float
 clock_after clock taken dt = if taken then zero_float else if le clock vision_active_timeout_s then add binary32 clock dt else clock
 
 -- new or reset: a fresh seeding, and the clock at 1.5 s
-unfoldable pub new_vision : Vision
+abbrev pub new_vision : Vision
 new_vision = record { gate = Gate.Seeding fresh_seeding; time_since_vision_update_s = vision_clock_start_s }
 
 -- what a tick answers, and the vision that it leaves

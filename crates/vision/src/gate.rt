@@ -22,7 +22,6 @@ pub enum VisionGateState {
 
 impl VisionGateState {
     // A sighting at this distance in metres, for a gate that is tracking since t.
-    #[tactic(auto, unfolding(crate::specs::Gate::tracking_judged, crate::specs::Gate::radius))]
     fn track(&mut self, t: f32, dist: f32, dt: f32) -> GateAction
         ensures { let j = tracking_judged t dist dt in (result ≡ j.action) × (self.new ≡ j.gate) }
     {
@@ -47,7 +46,7 @@ impl VisionGateState {
 
     /// The judgement of one tick, on the place in metres that was seen and the one predicted.
     /// Without a sighting the radius of a tracking gate grows on.
-    #[tactic(auto, unfolding(crate::specs::Gate::judged, crate::specs::Gate::sighting_judged, crate::specs::Gate::quiet, crate::specs::Gate::distance, crate::specs::Gate::seeding_judged, crate::specs::Seeding::kept_seeding))]
+    #[tactic(auto, unfolding(crate::specs::Gate::judged))]
     pub fn judge(
         &mut self,
         sighting: Option<Vector3f>,

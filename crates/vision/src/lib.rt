@@ -24,7 +24,6 @@ pub struct Vision {
 }
 
 // The vision clock after a tick; beyond the timeout it stands still.
-#[tactic(auto, unfolding(crate::specs::Vision::clock_after))]
 fn clock_after(clock: f32, taken: bool, dt: f32) -> f32
     ensures { result ≡ clock_after clock taken dt }
 {
@@ -39,7 +38,6 @@ fn clock_after(clock: f32, taken: bool, dt: f32) -> f32
 
 impl Vision {
     /// At the start, and after a reset: a fresh seeding, and a clock beyond the timeout.
-    #[tactic(auto, unfolding(crate::specs::Vision::new_vision))]
     pub fn new() -> Vision
         ensures { result ≡ new_vision }
     {
@@ -50,7 +48,6 @@ impl Vision {
     }
 
     /// `vision_active`: the cameras are active.
-    #[tactic(auto, unfolding(crate::specs::Vision::active))]
     pub fn vision_active(&self) -> bool
         ensures { result ≡ active self.now.time_since_vision_update_s }
     {

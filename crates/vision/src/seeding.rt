@@ -35,7 +35,6 @@ impl Model for Seeding {
 }
 
 // The deviation of n samples: Variance = E[x²] - (E[x])², which rounding can take below zero.
-#[tactic(auto, unfolding(crate::specs::Seeding::deviation))]
 fn deviation_of(sum: f32, sq_sum: f32, nf: f32) -> f32
     ensures { result ≡ deviation sum sq_sum nf }
 {
@@ -45,7 +44,7 @@ fn deviation_of(sum: f32, sq_sum: f32, nf: f32) -> f32
 
 impl Seeding {
     /// A seeding that has seen nothing: `VisionGateState::default` of control_context.rs.
-    #[tactic(auto, unfolding(crate::specs::Seeding::fresh_seeding, linear::specs::Vector::zeros2))]
+    #[tactic(auto, unfolding(linear::specs::Vector::zeros2))]
     pub fn fresh() -> Seeding
         ensures { result ≡ fresh_seeding }
     {
@@ -78,7 +77,6 @@ impl Seeding {
     }
 
     /// Gathers one sighting more. The last one that a seeding needs ends it, and leaves a fresh one.
-    #[tactic(auto, unfolding(crate::specs::Gate::seeding_judged, crate::specs::Seeding::gathered, crate::specs::Seeding::kept_seeding, crate::specs::Seeding::steady))]
     pub fn gather(&mut self, sighting: Vector3f) -> GateAction
         ensures { let s = gathered self.old sighting in
             (result ≡ (seeding_judged s).action) × (self.new ≡ kept_seeding s) }

@@ -30,7 +30,7 @@ fn n_steps_of(dt_secs: f32) -> usize
 }
 
 // The lag of a tick length, at rest, both axes alike.
-#[tactic(auto, unfolding(crate::specs::EncoderLag::dt_of, crate::specs::EncoderLag::new_lag, linear::specs::Vector::zeros2))]
+#[tactic(auto, unfolding(crate::specs::EncoderLag::new_lag, linear::specs::Vector::zeros2))]
 fn lag_of(t: TickLength) -> FirstOrderLag
     ensures { result ≡ new_lag t }
 {
