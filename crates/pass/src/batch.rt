@@ -4,6 +4,8 @@ ghost use Rattle.line_text.specs.Text.{line_text};
 ghost use Rattle.line_text.specs.Puts.{Within};
 ghost use Rattle.pass.specs.Pass.{driven};
 ghost use Rattle.pass.specs.Batch.{is_refused, written, text_of, batch_into, answer_of};
+ghost use Rattle.pass.specs.BatchHolds.{PassHoldsOf};
+ghost use Rattle.pass.specs.declared.pass.Pass.TheVariants.{Empty};
 
 use crate::pass::Pass;
 use line_text::line::{LINE, Line, write_line};
@@ -58,6 +60,7 @@ pub fn drive_batch(pass: &mut Pass, blocks: &[u8], out: &mut [u8]) -> Written
     ensures value { let t = batch_into out.old pass.old blocks.now in (result ≡ answer_of t) × (pass.new ≡ t.pass) }
     ensures out_after { out.new ≡ text_of (batch_into out.old pass.old blocks.now).lines ++ drop result.len out.old }
     ensures within { Within result.len out.new }
+    ensures begins { pass.old ≡ Empty → PassHoldsOf (batch_into out.old pass.old blocks.now) pass.new }
 {
     let room = out.len() / LINE;
     let mut w = Written {
