@@ -1,7 +1,8 @@
 -- What `specs/BatchLaws.antt` states of batches.
 use Prim.Native.Nat.{ℕ, zero, suc, ◌+◌, ◌*◌, ◌≤◌, ◌<◌}
 use mathlib.Core.Path.{◌≡◌, refl, sym, ap, ◌∙◌}
-use mathlib.Core.Bool.{Bool, true, false, cond}
+use mathlib.Core.Bool.{Bool, true, false}
+use Rattle.std.specs.Prelude.{if◌then◌else◌}
 use mathlib.Core.List.{List, [], ◌∷◌, ◌++◌, append_assoc, append-nil, flatten}
 use native.Mathlib.Nat.{zero-add, suc-add, add_comm, not-suc-le-zero}
 use native.Mathlib.Omega.{arith}
@@ -25,8 +26,8 @@ followed_by-nothing t = go t.blocks t.lines t.over
     go bs ls true = refl
     go bs ls false = rw (append-nil bs, append-nil ls)
 
-pub then_assoc : (s t : Batched) (f : Pass → Batched) → followed_by s (followed_by t (f t.pass)) ≡ followed_by (followed_by s t) (f (followed_by s t).pass)
-then_assoc s t f = go s.over t.over
+pub followed_by_assoc : (s t : Batched) (f : Pass → Batched) → followed_by s (followed_by t (f t.pass)) ≡ followed_by (followed_by s t) (f (followed_by s t).pass)
+followed_by_assoc s t f = go s.over t.over
   where
     go : (o u : Bool)
         → (let s' : Batched = record { blocks = s.blocks; lines = s.lines; pass = s.pass; over = o } in
@@ -64,7 +65,7 @@ split (suc n) m p (b ∷ bytes) =
     let t : Batched = batch_of n q (behind_first l) in
     ap (λ (k : ℕ). batch_of k p l) (suc-add n m)
     ∙ ap (followed_by (one_block p (first_block l))) (split n m q (behind_first l))
-    ∙ then_assoc (one_block p (first_block l)) t (λ (s : Pass). batch_of m s (drop (n * 512) (behind_first l)))
+    ∙ followed_by_assoc (one_block p (first_block l)) t (λ (s : Pass). batch_of m s (drop (n * 512) (behind_first l)))
     ∙ ap (λ (r : List ℕ). followed_by (batch_of (suc n) p l) (batch_of m (batch_of (suc n) p l).pass r)) (behind n l)
 
 -- with no bytes left, room for more blocks changes nothing
@@ -106,14 +107,14 @@ unfolding text_of
 text_of_append [] b = refl
 text_of_append (l ∷ ls) b = ap (λ (t : List ℕ). line_text l ++ t) (text_of_append ls b) ∙ sym (append_assoc (line_text l) (text_of ls) (text_of b))
 
-then_lines : (t rest : Batched) → t.over ≡ false → (followed_by t rest).lines ≡ t.lines ++ rest.lines
-then_lines t rest o = rw o refl
+followed_by_lines : (t rest : Batched) → t.over ≡ false → (followed_by t rest).lines ≡ t.lines ++ rest.lines
+followed_by_lines t rest o = rw o refl
 
 pub texts_join : TextsJoin
 texts_join n p a b e o =
     let t = whole_of p a in
     let rest = whole_of t.pass b in
-    sym (text_of_append t.lines rest.lines) ∙ ap text_of (sym (then_lines t rest o) ∙ ap (λ (u : Batched). u.lines) (batches_join n p a b e))
+    sym (text_of_append t.lines rest.lines) ∙ ap text_of (sym (followed_by_lines t rest o) ∙ ap (λ (u : Batched). u.lines) (batches_join n p a b e))
 
 -- ---- the bytes
 
@@ -123,7 +124,7 @@ flatten_on : (p : Pass) (block others : List ℕ) (rest : Batched) → (rest.ove
 flatten_on p block others rest k = go (is_refused (driven p block).line) refl
   where
     go : (o : Bool) → is_refused (driven p block).line ≡ o
-        → (let t : Batched = cond o (one_block p block) (record { blocks = block ∷ rest.blocks; lines = (driven p block).line ∷ rest.lines; pass = rest.pass; over = rest.over }) in
+        → (let t : Batched = if o then one_block p block else record rest { blocks = block ∷ rest.blocks; lines = (driven p block).line ∷ rest.lines } in
         t.over ≡ false → flatten t.blocks ≡ block ++ others)
     go true e f = let z : true ≡ false = sym e ∙ f in cc
     go false e f = unfold flatten in ap (λ (l : List ℕ). block ++ l) (k f)

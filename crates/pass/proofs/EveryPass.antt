@@ -3,8 +3,8 @@ use mathlib.Core.Path.{◌≡◌, refl, sym, ap, ◌∙◌}
 use Prim.Native.Nat.{ℕ}
 use mathlib.Core.Bool.{Bool, true, false}
 use mathlib.Core.List.{List, [], ◌∷◌, head-eq_of_cons-eq}
-use Rattle.std.specs.Prelude.{if◌then◌else◌, ◌==◌, Option, Some, Result, Ok, Err}
-use Rattle.std.specs.Result.{result_and, result_map_both}
+use Rattle.std.specs.Prelude.{if◌then◌else◌, ◌==◌, Some, Result, Ok, Err}
+use Rattle.std.specs.Result.{result_and}
 use Rattle.linear.specs.declared.Vector3f.{Vector3f}
 use Rattle.tick.specs.declared.action.GateAction.{GateAction}
 use Rattle.tick.specs.declared.inputs.TickInput.{TickInput}
@@ -34,7 +34,7 @@ use Rattle.tick_block.specs.declared.TickBlock.{TickBlock}
 use Rattle.tick_block.specs.Block as Blocks
 use Rattle.pass.specs.declared.pass.Pass.{Pass}
 use Rattle.pass.specs.declared.pass.Pass.TheVariants.{Empty, Driving}
-use Rattle.pass.specs.Tick.{Ticked, ended_by, ending_of, if_accepted, steered, planned, ticked_with, ticked}
+use Rattle.pass.specs.Tick.{ended_by, ending_of, if_accepted, steered, planned, ticked_with, ticked}
 use Rattle.pass.specs.Pass.{next_number, totals_of, Driven, driver_of, ticked_by, taken_with, taken, refused_by, driven_with, driven}
 use Rattle.pass.specs.PlainPass.{mark_of, PlainPass, none, at, PlainDriven, reply_after, refusal_in, ended_at, at_finish, at_steer, at_plan, plain_tick, plain_ticks, plain_counts, refused_at, plain_take, plain_read, plain_pass, plain_marks, Passed, marks_of, StandsOn, EveryPass}
 use Rattle.pass.proofs.Read.{valid_read}
@@ -178,7 +178,10 @@ later_agrees : (start : Start) (calls : List Call) (c : BodyController) (b : Tic
     → Agrees (driven_with (ticked_by (driver_of (Driving c) b) b) (Driving c)) (plain_take (at start calls) b)
 unfolding driver_of
 later_agrees start calls c b m =
-    rw (ap (λ (s : Start). s.tick_length) (follows_plain_drive start m.entries c m.valid m.made).chosen, ticks_beside (Driving c) (at start calls) m) (go (b.tick_length == start.tick_length) (b.number == plain_ticks (at start calls)))
+    rw (
+      ap (λ (s : Start). b.tick_length == s.tick_length) (follows_plain_drive start m.entries c m.valid m.made).chosen,
+      ap (λ (n : ℕ). b.number == n) (ticks_beside (Driving c) (at start calls) m),
+    ) (go (b.tick_length == start.tick_length) (b.number == plain_ticks (at start calls)))
   where
     go : (same next : Bool)
         → Agrees (driven_with (ticked_by (result_and (if same then (if next then Ok (tt {0}) else Err Why.Order) else Err Why.OtherTickLength) (Ok c)) b) (Driving c))

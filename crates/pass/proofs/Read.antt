@@ -1,13 +1,12 @@
 -- The tick length of a block that was read is one.
-use mathlib.Core.Path.{◌≡◌, refl, sym, ap, ◌∙◌}
+use mathlib.Core.Path.{◌≡◌, refl}
 use Prim.Native.Nat.{ℕ}
 use mathlib.Core.Bool.{Bool, true, false}
 use mathlib.Core.List.{List}
-use Rattle.std.specs.Prelude.{Result, Ok, Err}
+use Rattle.std.specs.Prelude.{Ok}
 use Rattle.std.specs.Result.{result_map_both}
-use Rattle.tick.specs.declared.refusal.Refusal.{Refusal}
 use Rattle.tick.specs.declared.refusal.Refusal.TheVariants as Why
-use Rattle.tick.specs.TickLength.{IsTickLength, is_tick_length}
+use Rattle.tick.specs.TickLength.{IsTickLength}
 use Rattle.tick.proofs.TickLengthExact.{tick_length_bounds}
 use Rattle.tick_block.specs.declared.TickBlock.{TickBlock}
 use Rattle.tick_block.specs.Words.{word_at}

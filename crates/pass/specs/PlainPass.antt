@@ -80,26 +80,26 @@ refused_at n p = record { mark = turned_away (plain_ticks p) n; pass = p }
 
 -- a tick that ended after these calls, with its marks at the end
 abbrev pub ended_at : Start → List Call → ℕ → Option GateAction → ℕ → PlainDriven
-ended_at start calls number outcome ending = record {
-  mark = tick number outcome (active (Plain.driven start calls).clock) (is_recovering (Plain.driven start calls).recovering) ending;
+ended_at start calls number action ending = record {
+  mark = tick number action (active (Plain.driven start calls).clock) (is_recovering (Plain.driven start calls).recovering) ending;
   pass = at start calls;
 }
 
 -- the calls of a block, up to the first that is turned away
 abbrev pub at_finish : Start → List Call → ℕ → Option GateAction → TickInput → PlainDriven
-at_finish start calls number outcome i = ended_at start (finish i.finish ∷ calls) number outcome (refusal_in (reply_after start calls (finish i.finish)))
+at_finish start calls number action i = ended_at start (finish i.finish ∷ calls) number action (refusal_in (reply_after start calls (finish i.finish)))
 
 abbrev pub at_steer : Start → List Call → ℕ → Option GateAction → TickInput → PlainDriven
-at_steer start calls number outcome i =
+at_steer start calls number action i =
     if is_refused (reply_after start calls (steer i.steer))
-    then ended_at start (steer i.steer ∷ calls) number outcome (refusal_in (reply_after start calls (steer i.steer)))
-    else at_finish start (steer i.steer ∷ calls) number outcome i
+    then ended_at start (steer i.steer ∷ calls) number action (refusal_in (reply_after start calls (steer i.steer)))
+    else at_finish start (steer i.steer ∷ calls) number action i
 
 abbrev pub at_plan : Start → List Call → ℕ → Option GateAction → TickInput → PlainDriven
-at_plan start calls number outcome i =
+at_plan start calls number action i =
     if is_refused (reply_after start calls (plan i.plan))
-    then ended_at start (plan i.plan ∷ calls) number outcome (refusal_in (reply_after start calls (plan i.plan)))
-    else at_steer start (plan i.plan ∷ calls) number outcome i
+    then ended_at start (plan i.plan ∷ calls) number action (refusal_in (reply_after start calls (plan i.plan)))
+    else at_steer start (plan i.plan ∷ calls) number action i
 
 -- of a pass p
 unfoldable pub plain_tick : PlainPass → Start → List Call → TickInput → PlainDriven
