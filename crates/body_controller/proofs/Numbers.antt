@@ -11,7 +11,7 @@ use Rattle.tick.specs.declared.inputs.PlanInput.{PlanInput}
 use Rattle.body_controller.specs.declared.BodyController.{BodyController}
 use Rattle.body_controller.specs.Controller.{refused}
 use Rattle.body_controller.specs.Turn.{is_plan}
-use Rattle.body_controller.specs.Plan.{planned, plan_with, plan_of, plan_refusal}
+use Rattle.body_controller.specs.Plan.{plan_with, plan_of, plan_refusal}
 
 -- a mode number is refused exactly where it is no mode
 command_number : (mode : ℕ) (w : List Float) → number_of (command_from mode w) ≡ cond (is_mode mode) 0 4
@@ -48,7 +48,6 @@ above_zero Why.PlannerFailed e = clash 11 e
 command_numbered : (c : BodyController) (i : PlanInput) (a : Result ManeuverCommand Refusal) (known : Bool)
     → number_of a ≡ cond known 0 4
     → number_of (plan_with a c i).answer ≡ cond (not known) 4 (cond i.estimator_failed 11 0)
-unfolding planned refused
 command_numbered c i (Err r) true e = above_zero r e
 command_numbered c i (Err r) false e = e
 command_numbered c i (Ok cmd) false e = clash 3 (sym e)
@@ -60,7 +59,6 @@ command_numbered c i (Ok cmd) true e = go i.estimator_failed refl
 
 -- what plan gives at any turn
 pub plan_numbered : (c : BodyController) (i : PlanInput) → number_of (plan_of c i).answer ≡ plan_refusal c i
-unfolding plan_of refused
 plan_numbered c i = go (is_plan c.turn)
   where
     go : (b : Bool)

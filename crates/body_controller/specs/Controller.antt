@@ -13,7 +13,7 @@ use Rattle.body_controller.specs.declared.Called.{Called}
 use Rattle.body_controller.specs.declared.Turn.TheVariants as Turns
 
 -- nothing seen, nothing counted, at sight's turn
-unfoldable pub started : Start → BodyController
+abbrev pub started : Start → BodyController
 started start = record {
   context = new_context start zeros6;
   turn = Turns.Sight;
@@ -22,15 +22,15 @@ started start = record {
 }
 
 -- the answer to a k: a controller where k is a tick length's
-unfoldable pub new_of : ℕ → Result BodyController Refusal
+abbrev pub new_of : ℕ → Result BodyController Refusal
 new_of k = result_map_both started (λ r. r) (start_of k)
 
 -- a call that is refused, with the controller that it leaves
-unfoldable pub refused : {A : Type 0} → Refusal → BodyController → Called A
+abbrev pub refused : {A : Type 0} → Refusal → BodyController → Called A
 refused r c = record { answer = Err r; controller = c }
 
 -- the reset call: a new controller around the estimate, with ticks and counts as they were
-unfoldable pub reset_of : BodyController → BodyController
+abbrev pub reset_of : BodyController → BodyController
 reset_of c = record (started c.context.start) {
   context = new_context c.context.start c.context.state_estimate;
   tally = c.tally;

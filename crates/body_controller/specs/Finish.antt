@@ -19,12 +19,12 @@ use Rattle.body_controller.specs.Turn.{steered_at}
 -- ---- the answer
 
 -- the acceleration less inverse inertia times the friction force in global axes
-unfoldable pub friction_compensated : Steered → FinishInput → Vector3f
+abbrev pub friction_compensated : Steered → FinishInput → Vector3f
 friction_compensated s i =
     difference_of s.setpoints.body_accel (vector3_of (product_of i.i_inv (entries3 (to_global s.heading i.friction_force_local))))
 
 -- the five outputs, the two clamp marks and the wheels' mark
-unfoldable pub finished_by : Steered → FinishInput → Bool → Finished
+abbrev pub finished_by : Steered → FinishInput → Bool → Finished
 finished_by s i wheels_disabled =
     let accel = accel_clamped (friction_compensated s i) in
     record {
@@ -48,7 +48,7 @@ finished c s i =
     let f = finished_by s i c.context.wheels_disabled in
     record { answer = Ok f; controller = record c { turn = Turns.Sight; outputs = f.outputs } }
 
-unfoldable pub finish_of : BodyController → FinishInput → Called Finished
+abbrev pub finish_of : BodyController → FinishInput → Called Finished
 finish_of c i = option_map_or (λ s. finished c s i) (steered_at c.turn) (refused Why.OutOfTurn c)
 
 -- the refusal's number, 0 where the call is accepted

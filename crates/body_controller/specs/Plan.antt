@@ -15,7 +15,7 @@ use Rattle.body_controller.specs.Controller.{refused}
 use Rattle.body_controller.specs.Turn.{is_plan}
 
 -- an accepted call: its answer and the command are left to steer
-unfoldable pub planned : BodyController → PlanInput → ManeuverCommand → Called PlanAnswer
+abbrev pub planned : BodyController → PlanInput → ManeuverCommand → Called PlanAnswer
 planned c i cmd =
     let d = decided_on c.context i.mode i.halt cmd i.state_estimate in
     record {
@@ -28,7 +28,7 @@ abbrev pub plan_with : Result ManeuverCommand Refusal → BodyController → Pla
 plan_with (Err r) c i = refused r c
 plan_with (Ok cmd) c i = if i.estimator_failed then refused Why.EstimatorFailed (record c { turn = Turns.Sight }) else planned c i cmd
 
-unfoldable pub plan_of : BodyController → PlanInput → Called PlanAnswer
+abbrev pub plan_of : BodyController → PlanInput → Called PlanAnswer
 plan_of c i = if is_plan c.turn then plan_with (command_from i.mode i.words) c i else refused Why.OutOfTurn c
 
 -- the refusal's number, 0 where the call is accepted

@@ -21,16 +21,16 @@ use Rattle.body_controller.specs.Turn.{is_sight}
 -- ---- the answer
 
 -- the velocity as measured: wheel to twist times the wheel speeds, with the gyro as the third
-unfoldable pub velocity_of : SightInput → Vector3f
+abbrev pub velocity_of : SightInput → Vector3f
 velocity_of i = record (vector3_of (product_of i.wheel2twist (entries4 i.wheel_vel_meas))) { z = i.imu_gyro_theta_meas }
 
 -- an outcome that overwrites sets pose and velocity as measured; any other leaves the prediction
-unfoldable pub predicted_after : GateAction → SightInput → Vector6f
+abbrev pub predicted_after : GateAction → SightInput → Vector6f
 predicted_after action i =
     if overwrites action then record { pose = i.vision_pose_meas; twist = velocity_of i } else i.predicted_state
 
 -- outcome, measurement, whether vision counts, and the predicted state after any overwriting
-unfoldable pub sight_answer : GateAction → SightInput → Sighted
+abbrev pub sight_answer : GateAction → SightInput → Sighted
 sight_answer action i = record {
   action = action;
   measurement = record { vision_pose = i.vision_pose_meas; wheel_vel = i.wheel_vel_meas; gyro_theta = i.imu_gyro_theta_meas };
@@ -41,7 +41,7 @@ sight_answer action i = record {
 -- ---- the call
 
 -- an accepted call
-unfoldable pub sighted : BodyController → SightInput → Called Sighted
+abbrev pub sighted : BodyController → SightInput → Called Sighted
 sighted c i =
     let s = seen c.context (sighting_of i.vision_update i.vision_pose_meas) i.predicted_state in
     record {
@@ -49,7 +49,7 @@ sighted c i =
       controller = record c { context = s.context; turn = Turns.Plan; tally = counted c.tally s.action };
     }
 
-unfoldable pub sight_of : BodyController → SightInput → Called Sighted
+abbrev pub sight_of : BodyController → SightInput → Called Sighted
 sight_of c i =
     if not (is_sight c.turn) then refused Why.OutOfTurn c
     else if is_full c.tally then refused Why.TickLimit c

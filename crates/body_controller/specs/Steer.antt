@@ -21,13 +21,13 @@ use Rattle.body_controller.specs.Controller.{refused}
 use Rattle.body_controller.specs.Turn.{planned_at}
 
 -- setpoints with their twist scaled down in the stop state, then clamped
-unfoldable pub limited : ManeuverSetpoints → Bool → Rotation → Steered
+abbrev pub limited : ManeuverSetpoints → Bool → Rotation → Steered
 limited asked stop heading =
     let t = twist_clamped (stop_scaled stop asked.body_twist) in
     record { setpoints = record asked { body_twist = t.value }; vel_clamped = t.clamped; heading = heading }
 
 -- an accepted call: setpoints, then recovery, then the limits; it answers the friction twist of what the limits leave
-unfoldable pub steered : BodyController → Planned → SteerInput → Called Vector3f
+abbrev pub steered : BodyController → Planned → SteerInput → Called Vector3f
 steered c p i =
     let t = Following.steered c.context p i.fresh i.next i.wheel_vel_meas in
     let s = limited t.setpoints i.stop i.heading in
@@ -37,14 +37,14 @@ steered c p i =
     }
 
 -- the trajectory is dropped and the tick closed; recovery does not run
-unfoldable pub planner_failed : BodyController → Called Vector3f
+abbrev pub planner_failed : BodyController → Called Vector3f
 planner_failed c = refused Why.PlannerFailed (record c { context = Context.planner_failed c.context; turn = Turns.Sight })
 
 -- a planner failure counts only where plan answered that a new plan is needed
 abbrev pub fails_at : Planned → SteerInput → Bool
 fails_at p i = i.planner_failed && needs_plan p.answer
 
-unfoldable pub steer_of : BodyController → SteerInput → Called Vector3f
+abbrev pub steer_of : BodyController → SteerInput → Called Vector3f
 steer_of c i = option_map_or (λ p. if fails_at p i then planner_failed c else steered c p i) (planned_at c.turn) (refused Why.OutOfTurn c)
 
 -- the refusal's number, 0 where the call is accepted

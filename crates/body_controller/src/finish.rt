@@ -25,7 +25,6 @@ pub struct Finished {
 }
 
 // `body_accel_fric_comp`: the acceleration less what the friction force, given in local axes, will take.
-#[tactic(auto, unfolding(crate::specs::Finish::friction_compensated))]
 fn friction_compensated(s: Steered, i: FinishInput) -> Vector3f
     ensures { result ≡ friction_compensated s i }
 {
@@ -37,7 +36,6 @@ fn friction_compensated(s: Steered, i: FinishInput) -> Vector3f
 }
 
 // The outputs that steer's setpoints give, and the marks.
-#[tactic(auto, unfolding(crate::specs::Finish::finished_by))]
 fn finish_by(s: Steered, i: FinishInput, wheels_disabled: bool) -> Finished
     ensures { result ≡ finished_by s i wheels_disabled }
 {
@@ -58,7 +56,6 @@ fn finish_by(s: Steered, i: FinishInput, wheels_disabled: bool) -> Finished
 }
 
 impl BodyController {
-    #[tactic(auto, unfolding(crate::specs::Finish::finish_of, crate::specs::Controller::refused))]
     fn put_out(&mut self, i: FinishInput) -> Result<Finished, Refusal>
         ensures answer { result ≡ (finish_of self.old i).answer }
         ensures controller { self.new ≡ (finish_of self.old i).controller }
@@ -73,7 +70,6 @@ impl BodyController {
     }
 
     /// The tick's outputs, which ends the tick.
-    #[tactic(auto, unfolding(crate::specs::Finish::finish_of, crate::specs::Controller::refused))]
     pub fn finish(mut self, i: FinishInput) -> Called<Finished>
         ensures { (result ≡ finish_of self i) × (number_of result.answer ≡ finish_refusal self) }
     {

@@ -59,7 +59,7 @@ fn no_outputs() -> Outputs
 
 impl BodyController {
     /// A controller that has seen and counted nothing, at sight's turn.
-    #[tactic(auto, unfolding(crate::specs::Controller::started, linear::specs::Vector::zeros3, linear::specs::Vector::zeros6))]
+    #[tactic(auto, unfolding(linear::specs::Vector::zeros3, linear::specs::Vector::zeros6))]
     pub fn start(start: Start) -> BodyController
         ensures { result ≡ started start }
     {
@@ -72,7 +72,6 @@ impl BodyController {
     }
 
     /// A controller whose ticks take k/4096 s, or `Refusal::TickLength` where k is not from 1 to 64.
-    #[tactic(auto, unfolding(crate::specs::Controller::new_of))]
     pub fn new(k: u32) -> Result<BodyController, Refusal>
         ensures { (result ≡ new_of k) × (number_of result ≡ refusal_of k) }
     {
@@ -80,7 +79,6 @@ impl BodyController {
     }
 
     /// `reset`, accepted at any turn. Ticks, counts and estimate stay.
-    #[tactic(auto, unfolding(crate::specs::Controller::reset_of, crate::specs::Controller::started, control_context::specs::Context::new_context))]
     pub fn reset(self) -> BodyController
         ensures { result ≡ reset_of self }
     {

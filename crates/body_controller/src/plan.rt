@@ -12,7 +12,6 @@ use tick::refusal::Refusal;
 
 impl BodyController {
     // An estimator failure closes the tick before plan sets anything.
-    #[tactic(auto, unfolding(crate::specs::Plan::plan_of, crate::specs::Plan::planned, crate::specs::Controller::refused))]
     fn decide(&mut self, i: PlanInput) -> Result<PlanAnswer, Refusal>
         ensures answer { result ≡ (plan_of self.old i).answer }
         ensures controller { self.new ≡ (plan_of self.old i).controller }

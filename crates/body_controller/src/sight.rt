@@ -30,7 +30,6 @@ pub struct Sighted {
 }
 
 // `vel_seed`: the velocity that wheels and gyro measure.
-#[tactic(auto, unfolding(crate::specs::Sight::velocity_of))]
 fn vel_seed(i: SightInput) -> Vector3f
     ensures { result ≡ velocity_of i }
 {
@@ -40,7 +39,6 @@ fn vel_seed(i: SightInput) -> Vector3f
 }
 
 // Pose and velocity as measured where the outcome overwrites, else the prediction.
-#[tactic(auto, unfolding(crate::specs::Sight::predicted_after))]
 fn predict_after(action: GateAction, i: SightInput) -> Vector6f
     ensures { result ≡ predicted_after action i }
 {
@@ -54,7 +52,6 @@ fn predict_after(action: GateAction, i: SightInput) -> Vector6f
     }
 }
 
-#[tactic(auto, unfolding(crate::specs::Sight::sight_answer))]
 fn sight_answer(action: GateAction, i: SightInput) -> Sighted
     ensures { result ≡ sight_answer action i }
 {
@@ -71,7 +68,6 @@ fn sight_answer(action: GateAction, i: SightInput) -> Sighted
 }
 
 impl BodyController {
-    #[tactic(auto, unfolding(crate::specs::Sight::sight_of, crate::specs::Sight::sighted, crate::specs::Controller::refused))]
     fn see(&mut self, i: SightInput) -> Result<Sighted, Refusal>
         ensures answer { result ≡ (sight_of self.old i).answer }
         ensures controller { self.new ≡ (sight_of self.old i).controller }
@@ -90,7 +86,6 @@ impl BodyController {
     }
 
     /// The gate's judgement of the tick's sighting, which begins the tick.
-    #[tactic(auto, unfolding(crate::specs::Sight::sight_of, crate::specs::Sight::sighted, crate::specs::Controller::refused))]
     pub fn sight(mut self, i: SightInput) -> Called<Sighted>
         ensures { (result ≡ sight_of self i) × (number_of result.answer ≡ sight_refusal self) }
     {

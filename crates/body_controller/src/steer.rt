@@ -25,7 +25,6 @@ pub struct Steered {
 }
 
 // The tick's setpoints, their twist scaled down in the stop state and clamped.
-#[tactic(auto, unfolding(crate::specs::Steer::limited))]
 fn limit(asked: ManeuverSetpoints, stop: bool, heading: Rotation) -> Steered
     ensures { result ≡ limited asked stop heading }
 {
@@ -42,7 +41,6 @@ fn limit(asked: ManeuverSetpoints, stop: bool, heading: Rotation) -> Steered
 
 impl BodyController {
     // A planner failure drops the trajectory and closes the tick; it counts only where a new plan was needed.
-    #[tactic(auto, unfolding(crate::specs::Steer::steer_of, crate::specs::Steer::planner_failed, crate::specs::Steer::steered, crate::specs::Controller::refused))]
     fn track(&mut self, i: SteerInput) -> Result<Vector3f, Refusal>
         ensures answer { result ≡ (steer_of self.old i).answer }
         ensures controller { self.new ≡ (steer_of self.old i).controller }
@@ -65,7 +63,6 @@ impl BodyController {
 
     /// The setpoints that track what plan decided. Answers the twist that the robot model's friction force is to be
     /// asked for, in local axes and gated.
-    #[tactic(auto, unfolding(crate::specs::Steer::steer_of, crate::specs::Steer::planner_failed, crate::specs::Steer::steered, crate::specs::Controller::refused))]
     pub fn steer(mut self, i: SteerInput) -> Called<Vector3f>
         ensures { (result ≡ steer_of self i) × (number_of result.answer ≡ steer_refusal self i) }
     {

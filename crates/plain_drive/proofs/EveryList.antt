@@ -15,7 +15,7 @@ use Rattle.std.proofs.lemmas.List.Sums.{get_or-le-sum_by}
 use Rattle.tick.specs.declared.start.Start.{Start}
 use Rattle.tick.specs.TickLength.{IsTickLength}
 use Rattle.tick.specs.Start.{IsStart}
-use Rattle.tick.specs.Tally.{no_totals, no_counts, count_list, tick_limit}
+use Rattle.tick.specs.Tally.{count_list, tick_limit}
 use Rattle.tick.specs.declared.inputs.SightInput.{SightInput}
 use Rattle.tick.specs.declared.refusal.Refusal.TheVariants as Why
 use Rattle.tick.specs.Outcome.{takes}
@@ -23,11 +23,9 @@ use Rattle.tick.proofs.TickLengthExact.{bounds_tick_length}
 use Rattle.vision.specs.declared.gate.VisionGateState.{VisionGateState}
 use Rattle.vision.specs.declared.gate.VisionGateState.TheVariants.{Seeding, Tracking}
 use Rattle.vision.specs.Gate.{sighting_of, distance}
-use Rattle.vision.specs.Vision.{active, new_vision}
+use Rattle.vision.specs.Vision.{active}
 use Rattle.vision.proofs.Outcomes.{Small}
 use Rattle.vision.proofs.Held.{Held, held_active, unheld_inactive, held_widens}
-use Rattle.control_context.specs.Memory.{empty_memory}
-use Rattle.control_context.specs.Context as Context
 use Rattle.control_context.specs.StateEstimate as ContextSight
 use Rattle.body_controller.specs.declared.BodyController.{BodyController}
 use Rattle.body_controller.specs.declared.Called.{Called}
@@ -35,12 +33,12 @@ use Rattle.body_controller.specs.declared.sight.Sighted.{Sighted}
 use Rattle.body_controller.specs.Turn.{is_sight}
 use Rattle.body_controller.specs.Controller.{started, new_of, reset_of}
 use Rattle.body_controller.specs.Controller as Controller
-use Rattle.body_controller.specs.Sight.{sight_answer, sighted, sight_of}
+use Rattle.body_controller.specs.Sight.{sighted, sight_of}
 use Rattle.body_controller.specs.Plan.{plan_of}
 use Rattle.body_controller.specs.Steer.{steer_of}
 use Rattle.body_controller.specs.Finish.{finish_of}
 use Rattle.plain_drive.specs.Calls.{Call, sight, plan, steer, finish, reset, Reply, outcome, answer, accepted, refused, is_tick, took}
-use Rattle.plain_drive.specs.PlainDrive.{DriveState, new_drive, step, driven, driven_replies, resets_after}
+use Rattle.plain_drive.specs.PlainDrive.{DriveState, step, driven, driven_replies, resets_after}
 use Rattle.plain_drive.specs.EveryList.{sight_reply, plan_reply, steer_reply, finish_reply, Meets, Entry, Made, calls_of, replies_of, ticks_in, since, holding, took_within, drive_of, gathered_in, FollowsPlainDrive, NewIsStarted, EveryListRuns, NothingWraps, ActiveMeansSeen}
 use Rattle.plain_drive.proofs.Simulation.{Follows, sight_follows, plan_follows, steer_follows, finish_follows, reset_follows}
 use Rattle.plain_drive.proofs.Watched.{vision_of, Seen, Watched, drive_watched}
@@ -59,13 +57,12 @@ pub record Followed (start : Start) (h : List Entry) (c : BodyController) : Type
 
 begun : (start : Start) → Followed start [] (started start)
 begun start = record {
-  chosen = unfold started Context.new_context in refl;
-  state = unfold started Context.new_context drive_of driven calls_of new_drive new_vision empty_memory in refl;
+  chosen = refl;
+  state = unfold driven calls_of in refl;
   replies = unfold replies_of driven_replies calls_of in refl;
 }
 
 pub new_is_started : NewIsStarted
-unfolding new_of
 new_is_started k l g = (record { tick_length = k }, (l, g), refl, rw (bounds_tick_length k (l, g)) refl)
 
 -- ---- a call
@@ -116,7 +113,6 @@ taking c i = takes (ContextSight.seen c.context (sighting_of i.vision_update i.v
 
 -- a sight call that is accepted answers the gate's outcome
 accepted-outcome : (c : BodyController) (i : SightInput) → is_tick (sight_reply (sight_of c i).answer) ≡ true → took (sight_reply (sight_of c i).answer) ≡ taking c i
-unfolding sight_of sighted sight_answer Controller.refused
 accepted-outcome c i = go (not (is_sight c.turn)) (not (ltb c.tally.ticks tick_limit))
   where
     go : (s t : Bool)
@@ -135,13 +131,12 @@ widened : (start : Start) (h : List Entry) (c : BodyController) → IsStart star
     → i.vision_update ≡ true
     → T (le (distance i.vision_pose_meas i.predicted_state) (of_int binary32 (pos D)))
     → taking c i ≡ true
-unfolding drive_of ContextSight.seen
+unfolding ContextSight.seen
 widened start h c valid f D t i l g r e seen near =
     rw (seen, f.chosen)
     (held_widens start (since h) D c.context.vision (tick_length_of_start start valid).1 l g r (tracking-held start.tick_length (since h) (holding start h) (drive_of c) t e (watched_of start h c f).vision) i.vision_pose_meas i.predicted_state near)
 
 pub follows_plain_drive : FollowsPlainDrive
-unfolding drive_of
 follows_plain_drive start h c valid m =
     let f = followed start h c m in
     let w = watched_of start h c f in
@@ -200,7 +195,6 @@ within_sum : (n : ℕ) (ns : List ℕ) → sum ns ≤ n → All (λ (x : ℕ). x
 within_sum n ns h i d l = let each = get_or-le-sum_by (λ (x : ℕ). x) ns i d l in omega (arith, each, h)
 
 pub nothing_wraps : NothingWraps
-unfolding drive_of
 nothing_wraps start h c valid m =
     let w = watched_of start h c (followed start h c m) in
     (w.limit, within_sum 16777216 (count_list c.tally.counts) (rw (← w.counted) w.limit), gathered_few c.context.vision.gate w.small)

@@ -105,7 +105,6 @@ module _ (s : DriveState) (call : Call) where
 
 module _ (start : Start) (s : DriveState) where
   sight-moves : (i : SightInput) (turn : DriveTurn) → Moves start s (sight i) (on_sight turn start s i)
-  unfolding seen
   sight-moves i to_sight = go (ltb s.ticks 16777216) refl
     where
       go : (few : Bool) → ltb s.ticks 16777216 ≡ few → Moves start s (sight i) (cond few (seen start s i) (turned_away 3 s))
@@ -116,7 +115,6 @@ module _ (start : Start) (s : DriveState) where
   sight-moves i to_finish = inr (away s (sight i) 2 refl)
 
 plan_stands : (s : DriveState) (i : PlanInput) (turn : DriveTurn) → NoTick s (plan i) (on_plan turn s i)
-unfolding decided_on
 plan_stands s i to_sight = away s (plan i) 2 refl
 plan_stands s i to_plan = command (command_from i.mode i.words)
   where
@@ -143,7 +141,6 @@ module _ (s : DriveState) (i : SteerInput) (a : PlanAnswer) (cmd : ManeuverComma
 
   -- recovery clears where it ends
   steered_stands : NoTick s (steer i) (steered_by s a cmd i)
-  unfolding steered_by
   steered_stands = go judged.reset (recovery_ends s.recovering (judged_state tracked.held) s.estimate i.wheel_vel_meas)
     where
       go : (b : Bool) → ending s.recovering judged ≡ b → NoTick s (steer i) (record { reply = accepted; state = cond b (cleared tracked) (record tracked { recovering = judged.state }) })
@@ -151,7 +148,6 @@ module _ (s : DriveState) (i : SteerInput) (a : PlanAnswer) (cmd : ManeuverComma
       go false e = record { tick = refl; taken = refl; ticks = refl; counts = refl; cleared = false; reset = e; vision = (refl, refl) }
 
 steer_stands : (s : DriveState) (i : SteerInput) (turn : DriveTurn) → NoTick s (steer i) (on_steer turn s i)
-unfolding unplanned
 steer_stands s i to_sight = away s (steer i) 2 refl
 steer_stands s i to_plan = away s (steer i) 2 refl
 steer_stands s i (to_steer a cmd) = go (i.planner_failed && plans_anew a)
@@ -168,11 +164,9 @@ finish_stands s i (to_steer a cmd) = away s (finish i) 2 refl
 finish_stands s i to_finish = still s (finish i) (on_finish to_finish s) refl refl refl (refl, refl, refl, refl, refl)
 
 reset_stands : (s : DriveState) → NoTick s reset (on_reset s)
-unfolding on_reset
 reset_stands s = record { tick = refl; taken = refl; ticks = refl; counts = refl; cleared = true; reset = refl; vision = (refl, refl) }
 
 pub moves : (start : Start) (s : DriveState) (call : Call) → Moves start s call (step start s call)
-unfolding step
 moves start s (sight i) = sight-moves start s i s.turn
 moves start s (plan i) = inr (plan_stands s i s.turn)
 moves start s (steer i) = inr (steer_stands s i s.turn)

@@ -11,7 +11,7 @@ use Rattle.tick.specs.declared.action.GateAction.{GateAction}
 use Rattle.tick.specs.declared.action.GateAction.TheVariants.{NoVision, Accumulate, SeedComplete, SeedReset, Accept, AcceptJump, FirstReject, Reject}
 use Rattle.tick.specs.Outcome.{overwrites, number_of}
 use Rattle.vision.specs.Gate.{sighting_of}
-use Rattle.vision.specs.Vision.{new_vision, vision_after}
+use Rattle.vision.specs.Vision.{vision_after}
 use Rattle.std.specs.Prelude.{None, Result, Ok, Err}
 use Rattle.tick.specs.declared.refusal.Refusal.{Refusal}
 use Rattle.tick.specs.declared.refusal.Refusal.TheVariants as Why
@@ -21,7 +21,7 @@ use Rattle.control_context.specs.declared.maneuvers.PlanAnswer.{PlanAnswer}
 use Rattle.control_context.specs.declared.maneuvers.PlanAnswer.TheVariants as Answers
 use Rattle.tick.specs.declared.command.ManeuverCommand.TheVariants as Cmd
 use Rattle.tick.specs.Command.{position_from, line_from, command_from}
-use Rattle.control_context.specs.Memory.{empty_memory, trajectory_dropped, after_tracking}
+use Rattle.control_context.specs.Memory.{empty_memory}
 use Rattle.control_context.specs.Recovery.{recovery}
 use Rattle.body_controller.specs.declared.BodyController.{BodyController}
 use Rattle.tick.specs.declared.tally.Counts.{Counts}
@@ -41,9 +41,9 @@ use Rattle.control_context.specs.Following as Tracking
 use Rattle.body_controller.specs.declared.Turn.{Turn}
 use Rattle.body_controller.specs.declared.Turn.TheVariants as Turns
 use Rattle.body_controller.specs.Turn.{is_sight, is_plan, planned_at, steered_at}
-use Rattle.body_controller.specs.Controller.{started, reset_of, refused}
-use Rattle.body_controller.specs.Sight.{sight_answer, sighted, sight_of}
-use Rattle.body_controller.specs.Plan.{planned, plan_with, plan_of}
+use Rattle.body_controller.specs.Controller.{reset_of}
+use Rattle.body_controller.specs.Sight.{sighted, sight_of}
+use Rattle.body_controller.specs.Plan.{plan_with, plan_of}
 use Rattle.body_controller.specs.Steer as Steer
 use Rattle.body_controller.specs.Finish.{finished, finish_of}
 use Rattle.plain_drive.specs.Calls.{sight, plan, steer, finish, reset, Reply, accepted}
@@ -73,19 +73,12 @@ counts_grown n Reject = refl
 
 -- a controller's turn in the plain drive's terms
 drive_at : (c : BodyController) (turn : Turn) → c.turn ≡ turn → (drive_of c).turn ≡ drive_turn turn
-unfolding drive_of
 drive_at c turn e = ap drive_turn e
-
--- the tick limit is tried on the same number
-within : (c : BodyController) (b : Bool) → ltb c.tally.ticks tick_limit ≡ b → ltb (drive_of c).ticks 16777216 ≡ b
-unfolding drive_of
-within c b e = e
 
 -- ---- sight
 
 -- both memories are dropped together
 dropped : (b : Bool) (m : Memory) → ((cond b empty_memory m).held ≡ cond b None m.held) × ((cond b empty_memory m).prev_cmd ≡ cond b None m.prev_cmd)
-unfolding empty_memory
 dropped true m = (refl, refl)
 dropped false m = (refl, refl)
 
@@ -94,7 +87,7 @@ module _ (c : BodyController) (i : SightInput) where
   action = (vision_after c.context.vision (sighting_of i.vision_update i.vision_pose_meas) i.predicted_state c.context.start).action
 
   sighted_follows : Follows c (Plain.seen c.context.start (drive_of c) i) (sight_reply (sighted c i).answer) (sighted c i).controller
-  unfolding sighted sight_answer ContextSight.seen vision_after drive_of Plain.seen
+  unfolding ContextSight.seen vision_after
   sighted_follows = record {
     reply = refl;
     state = rw ((dropped (overwrites action) c.context.memory).0, (dropped (overwrites action) c.context.memory).1, counts_grown c.tally.counts action);
@@ -105,12 +98,11 @@ module _ (c : BodyController) (i : SightInput) where
   OnSight turn = Follows c (Plain.on_sight turn c.context.start (drive_of c) i) (sight_reply (sight_of c i).answer) (sight_of c i).controller
 
   pub sight_follows : Follows c (Plain.step c.context.start (drive_of c) (sight i)) (sight_reply (sight_of c i).answer) (sight_of c i).controller
-  unfolding sight_of refused Plain.step
   sight_follows = go c.turn refl (ltb c.tally.ticks tick_limit) refl
     where
       go : (turn : Turn) → c.turn ≡ turn → (b : Bool) → ltb c.tally.ticks tick_limit ≡ b → OnSight (drive_of c).turn
-      go Turns.Sight e true l = subst OnSight (sym (drive_at c _ e)) (rw (ap is_sight e, l, within c true l) sighted_follows)
-      go Turns.Sight e false l = subst OnSight (sym (drive_at c _ e)) (rw (ap is_sight e, l, within c false l) (record { reply = refl; state = refl; start = refl }))
+      go Turns.Sight e true l = subst OnSight (sym (drive_at c _ e)) (rw (ap is_sight e, l) sighted_follows)
+      go Turns.Sight e false l = subst OnSight (sym (drive_at c _ e)) (rw (ap is_sight e, l) (record { reply = refl; state = refl; start = refl }))
       go Turns.Plan e b l = subst OnSight (sym (drive_at c _ e)) (rw (ap is_sight e) (record { reply = refl; state = refl; start = refl }))
       go (Turns.Steer p) e b l = subst OnSight (sym (drive_at c _ e)) (rw (ap is_sight e) (record { reply = refl; state = refl; start = refl }))
       go (Turns.Finish s) e b l = subst OnSight (sym (drive_at c _ e)) (rw (ap is_sight e) (record { reply = refl; state = refl; start = refl }))
@@ -136,7 +128,7 @@ module _ (c : BodyController) (i : PlanInput) where
   command_follows : (a : Result ManeuverCommand Refusal)
       → ((r : Refusal) → a ≡ Err r → r ≡ Why.Mode)
       → Follows c (Plain.on_command a (drive_of c) i) (plan_reply (plan_with a c i).answer) (plan_with a c i).controller
-  unfolding drive_of planned refused ContextPlan.decided_on Plain.decided_on
+  unfolding ContextPlan.decided_on
   command_follows (Err r) only = rw (only r refl) (record { reply = refl; state = refl; start = refl })
   command_follows (Ok cmd) only = go i.estimator_failed refl
     where
@@ -148,7 +140,6 @@ module _ (c : BodyController) (i : PlanInput) where
   OnPlan turn = Follows c (Plain.on_plan turn (drive_of c) i) (plan_reply (plan_of c i).answer) (plan_of c i).controller
 
   pub plan_follows : (start : Start) → Follows c (Plain.step start (drive_of c) (plan i)) (plan_reply (plan_of c i).answer) (plan_of c i).controller
-  unfolding plan_of refused Plain.step
   plan_follows start = go c.turn refl
     where
       go : (turn : Turn) → c.turn ≡ turn → OnPlan (drive_of c).turn
@@ -160,7 +151,6 @@ module _ (c : BodyController) (i : PlanInput) where
 -- ---- reset
 
 pub reset_follows : (c : BodyController) (start : Start) → Follows c (Plain.step start (drive_of c) reset) accepted (reset_of c)
-unfolding drive_of started reset_of Context.new_context new_vision empty_memory Plain.step Plain.on_reset
 reset_follows c _ = record { reply = refl; state = refl; start = refl }
 
 -- ---- steer
@@ -172,7 +162,6 @@ at_finish c context s = record c { context = context; turn = Turns.Finish s }
 -- recovery, with finish next
 recovered_follows : (c : BodyController) (d : ControlContext) (w : Vector4f) (s : Steered)
     → drive_of (at_finish c (Tracking.recovered d w) s) ≡ Plain.recovered (Tracking.recovery_of d w) (drive_of (at_finish c d s))
-unfolding drive_of Context.context_reset new_vision empty_memory Tracking.recovered
 recovered_follows c d w s = go (Tracking.recovery_of d w).reset refl
   where
     go : (b : Bool) → (Tracking.recovery_of d w).reset ≡ b → drive_of (at_finish c (Tracking.recovered d w) s) ≡ Plain.recovered (Tracking.recovery_of d w) (drive_of (at_finish c d s))
@@ -181,7 +170,6 @@ recovered_follows c d w s = go (Tracking.recovery_of d w).reset refl
 
 -- a reset keeps the start too
 recovered_start : (d : ControlContext) (w : Vector4f) → (Tracking.recovered d w).start ≡ d.start
-unfolding Context.context_reset Tracking.recovered
 recovered_start d w = go (Tracking.recovery_of d w).reset
   where
     go : (b : Bool) → (cond b (Context.context_reset d) (record d { divergence = (Tracking.recovery_of d w).state })).start ≡ d.start
@@ -194,14 +182,12 @@ module _ (c : BodyController) (p : Planned) (i : SteerInput) where
 
   -- tracking, with finish next
   tracked_follows : (a : PlanAnswer) (s : Steered) → drive_of (at_finish c (tracked a).context s) ≡ Plain.followed (drive_of c) a p.cmd i
-  unfolding drive_of after_tracking Tracking.tracked
   tracked_follows Answers.Hold s = refl
   tracked_follows Answers.NoVision s = refl
   tracked_follows Answers.Keep s = refl
   tracked_follows (Answers.NewPlan seed) s = refl
 
   tracked_start : (a : PlanAnswer) → (tracked a).context.start ≡ c.context.start
-  unfolding Tracking.tracked
   tracked_start Answers.Hold = refl
   tracked_start Answers.NoVision = refl
   tracked_start Answers.Keep = refl
@@ -213,17 +199,15 @@ module _ (c : BodyController) (p : Planned) (i : SteerInput) where
 
   both_follow : (s : Steered)
       → drive_of (at_finish c (Tracking.recovered (tracked p.answer).context i.wheel_vel_meas) s) ≡ recovered_in (Plain.followed (drive_of c) p.answer p.cmd i)
-  unfolding drive_of
   both_follow s = recovered_follows c (tracked p.answer).context i.wheel_vel_meas s ∙ ap recovered_in (tracked_follows p.answer s)
 
   steered_follows : Follows c (Plain.steered_by (drive_of c) p.answer p.cmd i) (steer_reply (Steer.steered c p i).answer) (Steer.steered c p i).controller
-  unfolding Steer.steered Tracking.steered Tracking.followed Plain.steered_by
-  steered_follows = record { reply = refl; state = both_follow _; start = recovered_start (tracked p.answer).context i.wheel_vel_meas ∙ tracked_start p.answer }
+  unfolding Tracking.steered
+  steered_follows = record { reply = refl; state = both_follow (Steer.limited (Tracking.steered c.context p i.fresh i.next i.wheel_vel_meas).setpoints i.stop i.heading); start = recovered_start (tracked p.answer).context i.wheel_vel_meas ∙ tracked_start p.answer }
 
   -- at steer's turn
   planned_follows : (b : Bool) → Steer.fails_at p i ≡ b
       → Follows c (Plain.on_steer (Plain.to_steer p.answer p.cmd) (drive_of c) i) (steer_reply (cond (Steer.fails_at p i) (Steer.planner_failed c) (Steer.steered c p i)).answer) (cond (Steer.fails_at p i) (Steer.planner_failed c) (Steer.steered c p i)).controller
-  unfolding drive_of trajectory_dropped Context.planner_failed Steer.planner_failed refused Plain.unplanned
   planned_follows true e = rw e (record { reply = refl; state = refl; start = refl })
   planned_follows false e = rw e steered_follows
 
@@ -232,7 +216,6 @@ module _ (c : BodyController) (i : SteerInput) where
   OnSteer turn = Follows c (Plain.on_steer turn (drive_of c) i) (steer_reply (Steer.steer_of c i).answer) (Steer.steer_of c i).controller
 
   pub steer_follows : (start : Start) → Follows c (Plain.step start (drive_of c) (steer i)) (steer_reply (Steer.steer_of c i).answer) (Steer.steer_of c i).controller
-  unfolding Steer.steer_of refused Plain.step
   steer_follows start = go c.turn refl
     where
       go : (turn : Turn) → c.turn ≡ turn → OnSteer (drive_of c).turn
@@ -246,14 +229,12 @@ module _ (c : BodyController) (i : SteerInput) where
 module _ (c : BodyController) (i : FinishInput) where
   -- at finish's turn
   finished_follows : (s : Steered) → Follows c (Plain.on_finish Plain.to_finish (drive_of c)) (finish_reply (finished c s i).answer) (finished c s i).controller
-  unfolding drive_of
   finished_follows s = record { reply = refl; state = refl; start = refl }
 
   abbrev OnFinish : Plain.DriveTurn → Type 0
   OnFinish turn = Follows c (Plain.on_finish turn (drive_of c)) (finish_reply (finish_of c i).answer) (finish_of c i).controller
 
   pub finish_follows : (start : Start) → Follows c (Plain.step start (drive_of c) (finish i)) (finish_reply (finish_of c i).answer) (finish_of c i).controller
-  unfolding finish_of refused Plain.step
   finish_follows start = go c.turn refl
     where
       go : (turn : Turn) → c.turn ≡ turn → OnFinish (drive_of c).turn

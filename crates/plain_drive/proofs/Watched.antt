@@ -22,7 +22,7 @@ use Rattle.vision.proofs.Outcomes.{Small, fresh_small, stays_small, Seeds, refus
 use Rattle.vision.proofs.Held.{Held, Unheld, taken_held, held_waits, unheld_waits}
 use Rattle.tick.specs.declared.inputs.SightInput.{SightInput}
 use Rattle.plain_drive.specs.Calls.{Call, is_tick, took}
-use Rattle.plain_drive.specs.PlainDrive.{DriveState, Step, new_drive, grown, seen, step, driven, driven_replies, resets_after}
+use Rattle.plain_drive.specs.PlainDrive.{DriveState, Step, new_drive, grown, seen, step, driven, driven_replies}
 use Rattle.plain_drive.specs.EveryList.{Entry, calls_of, replies_of, ticks_in, since, holding}
 use Rattle.plain_drive.proofs.PlainSteps.{resets, VisionFrom, NoTick, Ticked, Moves, moves}
 
@@ -83,17 +83,16 @@ module _ (start : Start) (n m : ℕ) (holds : Bool) (s : DriveState) (w : Watche
   after = (seen start s i).state
 
   waits : (held : Bool) → Seen start.tick_length held m (vision_of s) → takes action ≡ false → Seen start.tick_length held (m + 1) (vision_of after)
-  unfolding seen vision_after
+  unfolding vision_after
   waits true v e = rw add-one (held_waits (vision_of s) (sighting_of i.vision_update i.vision_pose_meas) i.predicted_state start m v e)
   waits false v e = (unheld_waits (vision_of s) (sighting_of i.vision_update i.vision_pose_meas) i.predicted_state start v.0 e, refused_seeds s.gate (sighting_of i.vision_update i.vision_pose_meas) i.predicted_state start v.1 e)
 
   tick_vision : (b : Bool) → takes action ≡ b → Seen start.tick_length (b || holds) (cond b 0 (m + 1)) (vision_of after)
-  unfolding seen vision_after
+  unfolding vision_after
   tick_vision true e = taken_held (vision_of s) (sighting_of i.vision_update i.vision_pose_meas) i.predicted_state start e
   tick_vision false e = waits holds w.vision e
 
   tick_watched : s.ticks < 16777216 → Watched start.tick_length (n + 1) (cond (takes action) 0 (m + 1)) (takes action || holds) after
-  unfolding seen
   tick_watched room = record {
     ticks = ap (λ (x : ℕ). x + 1) w.ticks;
     counted = ap (λ (x : ℕ). x + 1) w.counted ∙ sym (grown-sum (number_of action) s.counts (rw w.eight (number_below action)));
@@ -111,7 +110,6 @@ module _ (start : Start) (n m : ℕ) (holds : Bool) (s : DriveState) (w : Watche
   After = Watched start.tick_length (cond (is_tick to.reply) (n + 1) n) (cond (took to.reply) 0 (cond (is_tick to.reply) (m + 1) m)) (took to.reply || (not (resets s call to) && holds)) to.state
 
   ticked : Ticked start s call to → After
-  unfolding seen
   ticked t = rw (t.reset, t.moved) (tick_watched start n m holds s w t.input t.room)
 
   stood : NoTick s call to → After
@@ -141,13 +139,12 @@ module _ (start : Start) (n m : ℕ) (holds : Bool) (s : DriveState) (w : Watche
 -- ---- any list
 
 new_watched : (k : ℕ) → Watched k 0 0 false new_drive
-unfolding new_drive
 new_watched k = record { ticks = refl; counted = refl; eight = refl; limit = lit≤ tt; small = fresh_small; vision = (refl, tt) }
 
 pub drive_watched : (start : Start) (h : List Entry)
     → replies_of h ≡ driven_replies start (calls_of h)
     → Watched start.tick_length (ticks_in h) (since h) (holding start h) (driven start (calls_of h))
-unfolding driven driven_replies calls_of replies_of ticks_in since holding resets_after
+unfolding driven driven_replies calls_of replies_of ticks_in since holding
 drive_watched start [] r = new_watched start.tick_length
 drive_watched start (e ∷ h) r =
     rw (head-eq_of_cons-eq r)

@@ -105,7 +105,7 @@ drive_turn (Turns.Steer p) = to_steer p.answer p.cmd
 drive_turn (Turns.Finish s) = to_finish
 
 -- what the plain drive keeps too
-unfoldable pub drive_of : BodyController → DriveState
+abbrev pub drive_of : BodyController → DriveState
 drive_of c = record {
   gate = c.context.vision.gate;
   clock = c.context.vision.time_since_vision_update_s;

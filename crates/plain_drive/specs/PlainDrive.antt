@@ -51,7 +51,7 @@ pub record DriveState : Type 0 where
   pub counts : List ℕ
 
 -- as a new controller
-unfoldable pub new_drive : DriveState
+abbrev pub new_drive : DriveState
 new_drive = record {
   gate = Seeding fresh_seeding;
   clock = vision_clock_start_s;
@@ -84,7 +84,7 @@ grown (suc place) (n ∷ ns) = n ∷ grown place ns
 
 -- the gate gives the outcome; ticks and its count grow by one, and the clock moves. An outcome that overwrites drops held sample and
 -- previous command
-unfoldable pub seen : Start → DriveState → SightInput → Step
+abbrev pub seen : Start → DriveState → SightInput → Step
 seen start s i =
     let j = judged s.gate (sighting_of i.vision_update i.vision_pose_meas) i.predicted_state start in
     record {
@@ -110,7 +110,7 @@ on_sight to_finish start s i = turned_away 2 s
 -- ---- plan
 
 -- the estimate is set; then answer, drops and previous mode are the decision's
-unfoldable pub decided_on : DriveState → PlanInput → ManeuverCommand → Step
+abbrev pub decided_on : DriveState → PlanInput → ManeuverCommand → Step
 decided_on s i cmd =
     let d = decided i.mode i.halt (is_recovering s.recovering) (active s.clock) cmd (record { held = s.held; prev_cmd = s.previous }) s.mode i.state_estimate in
     record {
@@ -147,7 +147,7 @@ abbrev pub cleared : DriveState → DriveState
 cleared s = record s { gate = Seeding fresh_seeding; clock = vision_clock_start_s; recovering = Normal; held = None; previous = None }
 
 -- a reset call also sets the previous mode off, and closes the tick
-unfoldable pub on_reset : DriveState → Step
+abbrev pub on_reset : DriveState → Step
 on_reset s = record { reply = accepted; state = record (cleared s) { mode = 0; turn = to_sight } }
 
 -- ---- steer
@@ -167,7 +167,7 @@ tracks Keep = true
 tracks (NewPlan seed) = true
 
 -- 12 drops the held sample and closes the tick
-unfoldable pub unplanned : DriveState → Step
+abbrev pub unplanned : DriveState → Step
 unplanned s = record { reply = refused 12; state = record s { held = None; turn = to_sight } }
 
 -- on keep or new plan the next sample is held, and plan's command is the previous one; finish is next
@@ -187,7 +187,7 @@ abbrev pub recovered : RecoveryAnswer → DriveState → DriveState
 recovered r s = if r.reset then cleared s else record s { recovering = r.state }
 
 -- recovery runs on any answer
-unfoldable pub steered_by : DriveState → PlanAnswer → ManeuverCommand → SteerInput → Step
+abbrev pub steered_by : DriveState → PlanAnswer → ManeuverCommand → SteerInput → Step
 steered_by s a cmd i =
     let f = followed s a cmd i in
     record { reply = accepted; state = recovered (recovery f.recovering (judged_state f.held) f.estimate i.wheel_vel_meas) f }
@@ -210,7 +210,7 @@ on_finish to_finish s = record { reply = accepted; state = closed s }
 
 -- ---- any list of calls, the latest first
 
-unfoldable pub step : Start → DriveState → Call → Step
+abbrev pub step : Start → DriveState → Call → Step
 step start s (sight i) = on_sight s.turn start s i
 step start s (plan i) = on_plan s.turn s i
 step start s (steer i) = on_steer s.turn s i
@@ -228,6 +228,6 @@ driven_replies start [] = []
 driven_replies start (call ∷ calls) = (step start (driven start calls) call).reply ∷ driven_replies start calls
 
 -- a call after them resets: the reset call, or a steer call whose recovery ends, which shows in the recovery state before and after it
-unfoldable pub resets_after : Start → List Call → Call → Bool
+abbrev pub resets_after : Start → List Call → Call → Bool
 resets_after start calls call =
     is_reset call || (is_recovering (driven start calls).recovering && not (is_recovering (driven start (call ∷ calls)).recovering))

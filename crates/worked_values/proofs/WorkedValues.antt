@@ -11,7 +11,6 @@ use Rattle.controllers.specs.EncoderLag.{lag_of}
 use Rattle.controllers.proofs.EncoderCases as Lag
 use Rattle.vision.proofs.Cases as Gate
 use Rattle.control_context.proofs.ClampedCases as Limits
-use Rattle.body_controller.specs.Controller.{new_of}
 use Rattle.worked_values.specs.WorkedValues.{float, current_bits, NumberFor, WorkedValues}
 
 -- the brake's four, of one test
@@ -41,19 +40,19 @@ currents k h =
     }
 
 refused_0 : NumberFor 0 1
-unfolding new_of brake_of lag_of
+unfolding brake_of lag_of
 refused_0 = (refl, refl, refl)
 
 refused_65 : NumberFor 65 1
-unfolding new_of brake_of lag_of
+unfolding brake_of lag_of
 refused_65 = (refl, refl, refl)
 
 accepted_1 : NumberFor 1 0
-unfolding new_of brake_of lag_of
+unfolding brake_of lag_of
 accepted_1 = (refl, refl, refl)
 
 accepted_64 : NumberFor 64 0
-unfolding new_of brake_of lag_of
+unfolding brake_of lag_of
 accepted_64 = (refl, refl, refl)
 
 pub worked_values : WorkedValues
