@@ -45,8 +45,12 @@ fn append_line(out: &mut [u8], at: usize, line: Line) -> usize
     ensures out_after { out.new ≡ take at out.old ++ line_text line ++ drop (at + length (line_text line)) out.old }
     ensures upper_bound { result ≤ at + 128 }
 {
-    let room = out[at..].first_chunk_mut::<LINE>().unwrap();
-    at + write_line(line, room)
+    let rest = &mut out[at..];
+    let room = rest.first_chunk_mut::<LINE>().unwrap();
+    let len = write_line(line, room);
+    // No effect at run time. The proof reads what `out` holds from this use of `rest`.
+    let _ = &*rest;
+    at + len
 }
 
 /// Drives blocks to their end or to the first refusal, as many as `out` has room for at `LINE` bytes a line, and puts

@@ -1,6 +1,7 @@
-//! A tick: the calls sight, plan, steer and finish, up to the first that is turned away (docs/RULES.md, 'The five calls').
-ghost use Rattle.std.specs.Prelude.{◌≡◌, OnOk, IfErr};
-ghost use Rattle.pass.specs.Tick.{ending_of, planned, tick_line, ticked};
+//! A tick: the calls sight, plan, steer and finish, up to the first that is turned away, and its line (docs/RULES.md,
+//! 'The five calls').
+ghost use Rattle.std.specs.Prelude.{◌≡◌, MatchResult, Ok, Err};
+ghost use Rattle.pass.specs.Tick.{ending_of, planned, ticked};
 
 use body_controller::{BodyController, Called};
 use line_text::line::TickLine;
@@ -8,7 +9,7 @@ use linear::Vector4f;
 use tick::inputs::TickInput;
 use tick::refusal::Refusal;
 
-// The controller as a call leaves it, and the call's answer.
+// A call's answer; its controller takes the place of c.
 fn keep<A: Drop>(c: &mut BodyController, called: Called<A>) -> Result<A, Refusal>
     ensures { (result ≡ called.answer) × (c.new ≡ called.controller) }
 {
@@ -17,7 +18,7 @@ fn keep<A: Drop>(c: &mut BodyController, called: Called<A>) -> Result<A, Refusal
 }
 
 // The calls behind sight: the wheel speeds, or the refusal that ended the tick.
-#[tactic(auto, unfolding(crate::specs::Tick::planned, crate::specs::Tick::steered))]
+#[tactic(auto, unfolding(crate::specs::Tick::planned, crate::specs::Tick::steered, body_controller::specs::Controller::refused))]
 fn drive_on(c: &mut BodyController, i: &TickInput) -> Result<Vector4f, Refusal>
     ensures { let last = planned c.old i.now in (result ≡ ending_of last.answer) × (c.new ≡ last.controller) }
 {
@@ -27,15 +28,15 @@ fn drive_on(c: &mut BodyController, i: &TickInput) -> Result<Vector4f, Refusal>
     Ok(finished.outputs.wheel_vel_out)
 }
 
-/// A tick's line, with the marks at its end; or why sight refused the block, where the controller stays.
-#[tactic(auto, unfolding(crate::specs::Tick::ticked))]
+/// A tick's line, with the marks at its end. Where sight refuses the tick, the controller stays.
+#[tactic(auto, unfolding(crate::specs::Tick::ticked, crate::specs::Tick::ended_by))]
 pub fn drive_tick(c: &mut BodyController, i: &TickInput) -> Result<TickLine, Refusal>
-    ensures { let t = ticked c.old i.now in (result ≡ t.answer) × (c.new ≡ t.controller) }
+    ensures { MatchResult (ticked c.old i.now) (λ t. (result ≡ Ok t.line) × (c.new ≡ t.controller)) (λ r. (result ≡ Err r) × (c.new ≡ c.old)) }
 {
     let number = c.totals().ticks;
-    let sighted = c.sight(i.sight);
-    let action = sighted.answer?.action;
-    *c = sighted.controller;
+    let Called { answer, controller } = c.sight(i.sight);
+    let action = answer?.action;
+    *c = controller;
     let ending = drive_on(c, i);
     Ok(TickLine {
         number,

@@ -1,10 +1,11 @@
 //! A pass, and a block driven in it.
-ghost use Rattle.std.specs.Prelude.{◌≡◌};
+ghost use Rattle.std.specs.Prelude.{◌≡◌, MatchResult, Ok, Err};
 ghost use Rattle.pass.specs.Pass.{driven, driver_of, next_number, taken, totals_of};
+ghost use Rattle.pass.specs.declared.pass.Pass.TheVariants.{Driving};
 
 use crate::calls::drive_tick;
 use body_controller::BodyController;
-use line_text::line::{Line, RefusedLine};
+use line_text::line::{Line, RefusedLine, TickLine};
 use tick::refusal::Refusal;
 use tick::start::Start;
 use tick::tally::{Tally, Totals};
@@ -53,16 +54,16 @@ impl Pass {
         }
     }
 
-    // Drives a block, or answers why it is refused.
+    // Drives a block, or answers why it is refused: then the pass stays as it is.
     #[tactic(auto, unfolding(crate::specs::Pass::taken))]
-    fn take(&mut self, block: &[u8]) -> Result<Line, Refusal>
-        ensures { let t = taken self.old block.now in (result ≡ t.answer) × (self.new ≡ t.pass) }
+    fn take(&mut self, block: &[u8]) -> Result<TickLine, Refusal>
+        ensures { MatchResult (taken self.old block.now) (λ t. (result ≡ Ok t.line) × (self.new ≡ Driving t.controller)) (λ r. (result ≡ Err r) × (self.new ≡ self.old)) }
     {
         let b = TickBlock::read(block)?;
         let mut c = self.driver_of(&b)?;
         let line = drive_tick(&mut c, &b.inputs)?;
         *self = Pass::Driving(c);
-        Ok(Line::Tick(line))
+        Ok(line)
     }
 
     /// Drives a block, and answers its line. A refused block leaves the pass as it is.
@@ -71,7 +72,7 @@ impl Pass {
         ensures { let d = driven self.old block.now in (result ≡ d.line) × (self.new ≡ d.pass) }
     {
         match self.take(block) {
-            Ok(line) => line,
+            Ok(line) => Line::Tick(line),
             Err(refusal) => Line::Refused(RefusedLine {
                 number: self.next_number(),
                 refusal,
