@@ -81,7 +81,7 @@ module _ (start : Start) (number : ℕ) (action : GateAction) where
   shown q = let t = ended_by q number action in record { line = Lines.Tick t.line; pass = Driving t.controller }
 
   ended_agrees : (calls : List Call) (q : Called Finished) (n : ℕ) → Behind start calls q.controller → number_of q.answer ≡ n → Agrees (shown q) (ended_at start calls number (Some action) n)
-  unfolding ended_by drive_of
+  unfolding ended_by
   ended_agrees calls q n b e = record { mark = rw (ending q.answer ∙ e, ← stands start calls q.controller b) refl; pass = b }
     where
       ending : (a : Result Finished Refusal) → number_of (ending_of a) ≡ number_of a
@@ -100,7 +100,7 @@ module _ (start : Start) (number : ℕ) (action : GateAction) where
       ending (Err r) = refl
 
   steer_agrees : (calls : List Call) (c : BodyController) (i : TickInput) → Behind start calls c → Agrees (shown (steered c i)) (at_steer start calls number (Some action) i)
-  unfolding steered refused
+  unfolding steered
   steer_agrees calls c i b = go (steer_of c i.steer).answer refl
     where
       meets : Meets c (steer i.steer) (steer_reply (steer_of c i.steer).answer) (steer_of c i.steer).controller
@@ -112,7 +112,7 @@ module _ (start : Start) (number : ℕ) (action : GateAction) where
       go (Err r) e = rw (sym (replied start calls c b (steer i.steer) _ _ meets) ∙ ap steer_reply e) (ended_agrees (steer i.steer ∷ calls) (refused r (steer_of c i.steer).controller) _ (after start calls c b (steer i.steer) _ _ meets) refl)
 
   plan_agrees : (calls : List Call) (c : BodyController) (i : TickInput) → Behind start calls c → Agrees (shown (planned c i)) (at_plan start calls number (Some action) i)
-  unfolding planned refused
+  unfolding planned
   plan_agrees calls c i b = go (plan_of c i.plan).answer refl
     where
       meets : Meets c (plan i.plan) (plan_reply (plan_of c i.plan).answer) (plan_of c i.plan).controller
@@ -127,14 +127,12 @@ module _ (start : Start) (number : ℕ) (action : GateAction) where
 
 -- what the plain drive has of the controller of a pass
 ticks_beside : (p : Pass) (q : PlainPass) → Beside p q → next_number p ≡ plain_ticks q
-unfolding drive_of
 ticks_beside Empty none m = refl
 ticks_beside Empty (at start calls) m = absurd m
 ticks_beside (Driving c) none m = absurd m
 ticks_beside (Driving c) (at start calls) m = ap (λ (s : Plain.DriveState). s.ticks) (stands start calls c m)
 
 counts_beside : (p : Pass) (q : PlainPass) → Beside p q → count_list (totals_of p).counts ≡ plain_counts q
-unfolding drive_of Plain.new_drive
 counts_beside Empty none m = refl
 counts_beside Empty (at start calls) m = absurd m
 counts_beside (Driving c) none m = absurd m
@@ -153,7 +151,7 @@ tick_agrees p q beside start calls c i m = go (sight_of c i.sight).answer refl
     meets = (sight_of c i.sight, refl, refl, refl)
 
     ticks : c.tally.ticks ≡ (Plain.driven start calls).ticks
-    ticks = unfold drive_of in ap (λ (s : Plain.DriveState). s.ticks) (stands start calls c m)
+    ticks = ap (λ (s : Plain.DriveState). s.ticks) (stands start calls c m)
 
     go : (a : Result Sighted Refusal) → (sight_of c i.sight).answer ≡ a → Agrees (driven_with (ticked_with a c (sight_of c i.sight).controller i) p) (plain_tick q start calls i)
     go (Ok x) e =

@@ -18,7 +18,7 @@ fn keep<A: Drop>(c: &mut BodyController, called: Called<A>) -> Result<A, Refusal
 }
 
 // The calls behind sight: the wheel speeds, or the refusal that ended the tick.
-#[tactic(auto, unfolding(crate::specs::Tick::planned, crate::specs::Tick::steered, body_controller::specs::Controller::refused))]
+#[tactic(auto, unfolding(crate::specs::Tick::planned, crate::specs::Tick::steered))]
 fn drive_on(c: &mut BodyController, i: &TickInput) -> Result<Vector4f, Refusal>
     ensures { let last = planned c.old i.now in (result ≡ ending_of last.answer) × (c.new ≡ last.controller) }
 {

@@ -27,21 +27,27 @@ fn controller_for(
     Ok(c)
 }
 
-// A refused block has the number that its tick would have had, and the state that a reset call then gives. It ends its
-// pass.
-pub(crate) fn run_block(
-    pass: Option<BodyController>,
+fn run_tick(
+    pass: &Option<BodyController>,
     block: &[u8],
     words: &mut [u32; 96],
-) -> Option<BodyController> {
-    words[0] = match &pass {
-        None => 0,
-        Some(c) => c.totals().ticks,
-    };
-    match controller_for(&pass, block).and_then(|c| sight(c, block, words)) {
+) -> Result<BodyController, Refusal> {
+    match controller_for(pass, block) {
+        Ok(c) => sight(c, block, words),
+        Err(refusal) => Err(refusal),
+    }
+}
+
+// A refused block has the number that its tick would have had, and the state that a reset call then gives. It ends its
+// pass.
+pub(crate) fn run_block(pass: &mut Option<BodyController>, block: &[u8], words: &mut [u32; 96]) {
+    if let Some(c) = pass {
+        words[0] = c.totals().ticks;
+    }
+    match run_tick(pass, block, words) {
         Ok(c) => {
             put_state(words, &c);
-            Some(c)
+            *pass = Some(c);
         }
         Err(refusal) => {
             words[1] = REFUSED;
@@ -49,7 +55,7 @@ pub(crate) fn run_block(
             if let Some(c) = pass {
                 put_state(words, &c.reset());
             }
-            None
+            *pass = None;
         }
     }
 }

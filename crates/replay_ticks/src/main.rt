@@ -40,7 +40,7 @@ fn main(rt: HostRuntime) -> io::Result<()> {
         let mut block = [0; 512];
         let mut words = [0; 96];
         let n = read_full(&mut rt.stdin(), &mut block)?;
-        pass = run_block(pass, &block[..n], &mut words);
+        run_block(&mut pass, &block[..n], &mut words);
         if !write(&rt, &words, n)? {
             break;
         }

@@ -9,9 +9,9 @@ use tick::command::{GlobalPosition, HeadingLine, ManeuverCommand};
 use vision::Vision;
 use vision::gate::VisionGateState;
 
-fn put_vision(words: &mut [u32; 96], vision: Vision) {
+fn put_vision(words: &mut [u32; 96], vision: &Vision) {
     words[55] = to_bits(vision.time_since_vision_update_s);
-    match vision.gate {
+    match &vision.gate {
         VisionGateState::Seeding(s) => {
             words[49] = s.n();
             put::<2>(words, 50, s.pos_sum().into());
@@ -21,7 +21,7 @@ fn put_vision(words: &mut [u32; 96], vision: Vision) {
             time_since_last_valid_s,
         } => {
             words[48] = 1;
-            words[54] = to_bits(time_since_last_valid_s);
+            words[54] = to_bits(*time_since_last_valid_s);
         }
     }
 }
@@ -83,7 +83,7 @@ fn put_previous(words: &mut [u32; 96], memory: Memory) {
 }
 
 fn put_context(words: &mut [u32; 96], k: &ControlContext) {
-    put_vision(words, k.vision);
+    put_vision(words, &k.vision);
     put_held(words, k.memory);
     put_previous(words, k.memory);
     words[82] = k.prev_mode;
