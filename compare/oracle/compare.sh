@@ -3,9 +3,10 @@
 # Passes for every k from 1 to 64, each with a seed of its own and ended by a refused block, behind
 # which others follow: drive against `ticks`, and the program that replays each tick's words against
 # `ticks --full`, byte by byte. TICKS in all, 2,000,000 if not given.
-# Prints the counts and the differences, and ends with 1 if there are any.
+# With UNPROVED=1 both are built without proof. Prints the counts and the differences, and ends with 1 if
+# there are any.
 set -eu
-replay=tick_words
+replay=replay_ticks
 compare=$(cd "$(dirname "$0")/.." && pwd)
 [ $# -ge 1 ] || { echo "usage: compare/oracle/compare.sh FIRMWARE_SRC [TICKS]" >&2; exit 2; }
 FIRMWARE_SRC=$(cd "$1" && pwd)
@@ -16,8 +17,8 @@ first_seed=${SEED:-1000}
 target=${CARGO_TARGET_DIR:-$compare/target}
 rust=$target/release
 cargo build --quiet --release --offline --manifest-path "$compare/Cargo.toml" --package oracle --target-dir "$target"
-drive=$("$compare/../tools/build.py" drive)
-replay=$("$compare/../tools/build.py" $replay)
+drive=$("$compare/../tools/build.py" ${UNPROVED:+--unproved} drive)
+replay=$("$compare/../tools/build.py" ${UNPROVED:+--unproved} $replay)
 
 room=$(mktemp -d)
 trap 'rm -rf "$room"' EXIT

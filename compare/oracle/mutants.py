@@ -17,7 +17,7 @@ TOP = HERE.parent.parent
 sys.path.insert(0, str(TOP / "tools"))
 from unproved import Kit, Unbuilt
 
-REPLAY = "tick_words"
+REPLAY = "replay_ticks"
 # What only the lines show, beside the crates that drive uses and REPLAY doesn't.
 TEXT_FILES = {"tick/src/count.rt"}
 REFUSALS = [1, 4, 5, 6, 7, 8, 9, 10]

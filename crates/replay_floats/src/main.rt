@@ -1,5 +1,5 @@
 // Runs the lists of data/: roots and remainders against those of Rust's libm,
-// words both ways. vectors/ writes the lists. Prints a line for each list, and the first mismatches.
+// words both ways. compare/vectors writes the lists. Prints a line for each list, and the first mismatches.
 #![tactic(auto)]
 
 mod answer; // answer.rt: what is computed of an argument
