@@ -1,15 +1,17 @@
--- Plan's answers at its turn have document 01's numbers, in its order of trial. Assumes nothing.
-use Rattle.std.proofs.Common.{◌≡◌, ℕ, suc, Bool, true, false, cond, eqb, List, sym, refl, arith, le-ltb, eqb-true, Float, Result, Ok, Err}
+-- Plan's refusals at its turn, in the order of trial: the mode, then the estimator.
+use Rattle.std.proofs.Common.{◌≡◌, ℕ, suc, Bool, true, false, cond, not, eqb, List, sym, refl, arith, le-ltb, eqb-true, Float, Result, Ok, Err}
 use borrow.Author.Tests.{eqb-false}
 use Rattle.tick.specs.declared.refusal.Refusal.{Refusal}
 use Rattle.tick.specs.declared.refusal.Refusal.TheVariants as Why
 use Rattle.tick.specs.Refusal.{refusal_number, number_of}
 use Rattle.tick.specs.declared.command.ManeuverCommand.{ManeuverCommand}
-use Rattle.tick.specs.Command.{is_mode, command_from}
+use Rattle.tick.specs.Mode.{is_mode}
+use Rattle.tick.specs.Command.{command_from}
 use Rattle.tick.specs.declared.inputs.PlanInput.{PlanInput}
 use Rattle.body_controller.specs.declared.BodyController.{BodyController}
 use Rattle.body_controller.specs.Controller.{refused}
-use Rattle.body_controller.specs.Plan.{planned, plan_with}
+use Rattle.body_controller.specs.Turn.{is_plan}
+use Rattle.body_controller.specs.Plan.{plan_with, plan_of, plan_refusal}
 
 -- a mode number is refused exactly where it is no mode
 command_number : (mode : ℕ) (w : List Float) → number_of (command_from mode w) ≡ cond (is_mode mode) 0 4
@@ -45,8 +47,7 @@ above_zero Why.PlannerFailed e = clash 11 e
 -- 4, then 11
 command_numbered : (c : BodyController) (i : PlanInput) (a : Result ManeuverCommand Refusal) (known : Bool)
     → number_of a ≡ cond known 0 4
-    → number_of (plan_with a c i).answer ≡ cond known (cond i.estimator_failed 11 0) 4
-unfolding planned refused
+    → number_of (plan_with a c i).answer ≡ cond (not known) 4 (cond i.estimator_failed 11 0)
 command_numbered c i (Err r) true e = above_zero r e
 command_numbered c i (Err r) false e = e
 command_numbered c i (Ok cmd) false e = clash 3 (sym e)
@@ -56,6 +57,12 @@ command_numbered c i (Ok cmd) true e = go i.estimator_failed refl
     go true e = rw e
     go false e = rw e
 
--- what plan gives at its turn
-pub plan_number_lem : (c : BodyController) (i : PlanInput) → number_of (plan_with (command_from i.mode i.words) c i).answer ≡ cond (is_mode i.mode) (cond i.estimator_failed 11 0) 4
-plan_number_lem c i = command_numbered c i (command_from i.mode i.words) (is_mode i.mode) (command_number i.mode i.words)
+-- what plan gives at any turn
+pub plan_numbered : (c : BodyController) (i : PlanInput) → number_of (plan_of c i).answer ≡ plan_refusal c i
+plan_numbered c i = go (is_plan c.turn)
+  where
+    go : (b : Bool)
+        → number_of (cond b (plan_with (command_from i.mode i.words) c i) (refused Why.OutOfTurn c)).answer
+        ≡ cond (not b) 2 (cond (not (is_mode i.mode)) 4 (cond i.estimator_failed 11 0))
+    go true = command_numbered c i (command_from i.mode i.words) (is_mode i.mode) (command_number i.mode i.words)
+    go false = refl

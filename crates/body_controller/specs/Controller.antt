@@ -1,65 +1,37 @@
--- A new controller, and the reset call: document 01, 'The plain drive' and 'The tick's four calls'. Assumes nothing.
+-- A new controller, a refused call, and the reset call (docs/RULES.md, 'A new controller', 'The five calls' and 'Reset').
 use Rattle.std.specs.Prelude.{ℕ, Result, Err}
 use Rattle.std.specs.Result.{result_map_both}
 use Rattle.linear.specs.Vector.{zeros6}
 use Rattle.tick.specs.declared.refusal.Refusal.{Refusal}
-use Rattle.tick.specs.TickLength.{tick_length_of}
-use Rattle.control_context.specs.declared.ControlContext.{ControlContext}
+use Rattle.tick.specs.declared.start.Start.{Start}
+use Rattle.tick.specs.Start.{start_of}
+use Rattle.tick.specs.Tally.{no_totals}
+use Rattle.tick.specs.Outputs.{no_outputs}
 use Rattle.control_context.specs.Context.{new_context}
 use Rattle.body_controller.specs.declared.BodyController.{BodyController}
-use Rattle.body_controller.specs.declared.Choices.{Choices}
 use Rattle.body_controller.specs.declared.Called.{Called}
-use Rattle.body_controller.specs.declared.Turn.{Turn}
 use Rattle.body_controller.specs.declared.Turn.TheVariants as Turns
-use Rattle.tick.specs.Counts.{no_counts}
-use Rattle.tick.specs.Outputs.{no_outputs}
 
--- ---- the start
-
--- 'as the Rust's new controller does, at sight's turn, all counts 0'
-unfoldable pub started : Choices → BodyController
-started choices = record {
-  choices = choices;
-  context = new_context zeros6;
+-- nothing seen, nothing counted, at sight's turn
+abbrev pub started : Start → BodyController
+started start = record {
+  context = new_context start zeros6;
   turn = Turns.Sight;
   outputs = no_outputs;
-  ticks = 0;
-  counts = no_counts;
+  tally = no_totals;
 }
 
--- what `new` answers: a controller of that tick length, or its refusal
-unfoldable pub new_of : ℕ → Result BodyController Refusal
-new_of k = result_map_both (λ t. started (record { tick = t })) (λ r. r) (tick_length_of k)
+-- the answer to a k: a controller where k is a tick length's
+abbrev pub new_of : ℕ → Result BodyController Refusal
+new_of k = result_map_both started (λ r. r) (start_of k)
 
--- ---- the turn
-
--- another context and another turn, and nothing else
-abbrev pub turned_to : Turn → ControlContext → BodyController → BodyController
-turned_to turn context c = record {
-  choices = c.choices;
-  context = context;
-  turn = turn;
-  outputs = c.outputs;
-  ticks = c.ticks;
-  counts = c.counts;
-}
-
--- ---- a call turned away
-
--- a refusal, with the controller that it leaves
-unfoldable pub refused : {A : Type 0} → Refusal → BodyController → Called A
+-- a call that is refused, with the controller that it leaves
+abbrev pub refused : {A : Type 0} → Refusal → BodyController → Called A
 refused r c = record { answer = Err r; controller = c }
 
--- ---- the reset call
-
--- 'it does what recovery's reset does, zeroes the outputs, disables the wheels and sets the previous mode to off; counts, tick number and
--- estimate stay': the context is a new one around the estimate
-unfoldable pub reset_of : BodyController → BodyController
-reset_of c = record {
-  choices = c.choices;
-  context = new_context c.context.state_estimate;
-  turn = Turns.Sight;
-  outputs = no_outputs;
-  ticks = c.ticks;
-  counts = c.counts;
+-- the reset call: a new controller around the estimate, with ticks and counts as they were
+abbrev pub reset_of : BodyController → BodyController
+reset_of c = record (started c.context.start) {
+  context = new_context c.context.start c.context.state_estimate;
+  tally = c.tally;
 }

@@ -1,47 +1,60 @@
--- Sight, document 01, 'The tick's four calls' and 'When a call is turned away'. Assumes nothing.
-use Rattle.std.specs.Prelude.{ℕ, ◌+◌, ◌%◌, ◌^◌, cond, nat_lt, Ok}
-use Rattle.tick.specs.declared.refusal.Refusal.TheVariants as Why
-use Rattle.tick.specs.TickLength.{seconds_of}
-use Rattle.vision.specs.Gate.{sighting_of}
-use Rattle.control_context.specs.declared.state_estimate.Seen.{Seen}
-use Rattle.control_context.specs.StateEstimate.{seen}
+-- Sight, the tick's first call (docs/RULES.md, 'Sight').
+use Rattle.std.specs.Prelude.{ℕ, if◌then◌else◌, not, Ok}
+use Rattle.linear.specs.declared.Vector3f.{Vector3f}
+use Rattle.linear.specs.declared.Vector6f.{Vector6f}
+use Rattle.linear.specs.Vector.{entries4, vector3_of}
+use Rattle.linear.specs.Matrix.{product_of}
+use Rattle.tick.specs.declared.action.GateAction.{GateAction}
 use Rattle.tick.specs.declared.inputs.SightInput.{SightInput}
-use Rattle.body_controller.specs.declared.answers.Sighted.{Sighted}
-use Rattle.body_controller.specs.SightAnswer.{sight_answer}
-use Rattle.tick.specs.Counts.{counted}
+use Rattle.tick.specs.declared.refusal.Refusal.TheVariants as Why
+use Rattle.tick.specs.Outcome.{takes, overwrites}
+use Rattle.tick.specs.Tally.{counted, is_full}
+use Rattle.vision.specs.Gate.{sighting_of}
+use Rattle.control_context.specs.StateEstimate.{seen}
 use Rattle.body_controller.specs.declared.BodyController.{BodyController}
 use Rattle.body_controller.specs.declared.Called.{Called}
 use Rattle.body_controller.specs.declared.Turn.TheVariants as Turns
+use Rattle.body_controller.specs.declared.sight.Sighted.{Sighted}
 use Rattle.body_controller.specs.Controller.{refused}
 use Rattle.body_controller.specs.Turn.{is_sight}
 
--- 'sight after 16,777,216 ticks'
-abbrev pub tick_limit : ℕ
-tick_limit = 16777216
+-- ---- the answer
 
--- outcome and context after this input
-abbrev pub seen_by : BodyController → SightInput → Seen
-seen_by c i = seen c.context (sighting_of i.vision_update i.vision_pose_meas) i.predicted_state (seconds_of c.choices.tick.k)
+-- the velocity as measured: wheel to twist times the wheel speeds, with the gyro as the third
+abbrev pub velocity_of : SightInput → Vector3f
+velocity_of i = record (vector3_of (product_of i.wheel2twist (entries4 i.wheel_vel_meas))) { z = i.imu_gyro_theta_meas }
+
+-- an outcome that overwrites sets pose and velocity as measured; any other leaves the prediction
+abbrev pub predicted_after : GateAction → SightInput → Vector6f
+predicted_after action i =
+    if overwrites action then record { pose = i.vision_pose_meas; twist = velocity_of i } else i.predicted_state
+
+-- outcome, measurement, whether vision counts, and the predicted state after any overwriting
+abbrev pub sight_answer : GateAction → SightInput → Sighted
+sight_answer action i = record {
+  action = action;
+  measurement = record { vision_pose = i.vision_pose_meas; wheel_vel = i.wheel_vel_meas; gyro_theta = i.imu_gyro_theta_meas };
+  effective_vision_update = takes action;
+  state_prediction = predicted_after action i;
+}
+
+-- ---- the call
 
 -- an accepted call
-unfoldable pub sighted : BodyController → SightInput → Called Sighted
+abbrev pub sighted : BodyController → SightInput → Called Sighted
 sighted c i =
-    let s = seen_by c i in
+    let s = seen c.context (sighting_of i.vision_update i.vision_pose_meas) i.predicted_state in
     record {
       answer = Ok (sight_answer s.action i);
-      controller = record {
-        choices = c.choices;
-        context = s.context;
-        turn = Turns.Plan;
-        outputs = c.outputs;
-        ticks = (c.ticks + 1) % 2 ^ 32;
-        counts = counted c.counts s.action;
-      };
+      controller = record c { context = s.context; turn = Turns.Plan; tally = counted c.tally s.action };
     }
 
-unfoldable pub sight_of : BodyController → SightInput → Called Sighted
-sight_of c i = cond (is_sight c.turn) (cond (nat_lt c.ticks tick_limit) (sighted c i) (refused Why.TickLimit c)) (refused Why.OutOfTurn c)
+abbrev pub sight_of : BodyController → SightInput → Called Sighted
+sight_of c i =
+    if not (is_sight c.turn) then refused Why.OutOfTurn c
+    else if is_full c.tally then refused Why.TickLimit c
+    else sighted c i
 
--- document 01's number: 2, then 3
+-- the refusal's number, 0 where the call is accepted
 abbrev pub sight_refusal : BodyController → ℕ
-sight_refusal c = cond (is_sight c.turn) (cond (nat_lt c.ticks tick_limit) 0 3) 2
+sight_refusal c = if not (is_sight c.turn) then 2 else if is_full c.tally then 3 else 0

@@ -1,7 +1,7 @@
--- The turn, a term of document 01: which of the tick's four calls is next. Assumes nothing.
+-- The turn: which of the tick's four calls is next (docs/RULES.md, 'Words').
 use Rattle.std.specs.Prelude.{Bool, true, false, Option, Some, None}
-use Rattle.body_controller.specs.declared.answers.Steered.{Steered}
-use Rattle.control_context.specs.declared.Planned.{Planned}
+use Rattle.body_controller.specs.declared.steer.Steered.{Steered}
+use Rattle.control_context.specs.declared.context.Planned.{Planned}
 use Rattle.body_controller.specs.declared.Turn.{Turn}
 use Rattle.body_controller.specs.declared.Turn.TheVariants as Turns
 

@@ -1,57 +1,43 @@
-// Plan, the tick's second call: the estimate is set, and what is to be tracked is decided.
+//! Plan, the tick's second call: the estimate is set, and what is to be tracked is decided (docs/RULES.md, 'Plan').
 ghost use Rattle.std.specs.Prelude.{◌≡◌};
 ghost use Rattle.tick.specs.Refusal.{number_of};
-ghost use Rattle.body_controller.specs.Plan.{planned, plan_of, plan_refusal};
+ghost use Rattle.body_controller.specs.Plan.{plan_of, plan_refusal};
 
 use crate::{BodyController, Called, Turn};
-use control_context::Planned;
-use control_context::decision::{Decided, decide_on};
-use control_context::maneuvers::answer::PlanAnswer;
+use control_context::context::Planned;
+use control_context::maneuvers::PlanAnswer;
 use tick::command::ManeuverCommand;
 use tick::inputs::PlanInput;
 use tick::refusal::Refusal;
 
 impl BodyController {
-    // The controller after the decision on this command.
-    #[tactic(auto, unfolding(crate::specs::Plan::planned))]
-    fn decide(self, i: PlanInput, cmd: ManeuverCommand) -> Called<PlanAnswer>
-        ensures { result ≡ planned self i cmd }
-    {
-        let Decided { answer, context } = decide_on(
-            self.context,
-            i.mode,
-            i.halt,
-            cmd,
-            i.state_estimate,
-        );
-        Called {
-            answer: Ok(answer),
-            controller: BodyController {
-                context,
-                turn: Turn::Steer(Planned { answer, cmd }),
-                ..self
-            },
-        }
-    }
-
-    // An estimator failure ends the tick before plan sets anything.
-    #[tactic(auto, unfolding(crate::specs::Plan::plan_of, crate::specs::Plan::planned, crate::specs::Controller::refused))]
-    pub fn plan(self, i: PlanInput) -> Called<PlanAnswer>
-        ensures { (result ≡ plan_of self i) × (number_of result.answer ≡ plan_refusal self i) }
+    // An estimator failure closes the tick before plan sets anything.
+    fn decide(&mut self, i: PlanInput) -> Result<PlanAnswer, Refusal>
+        ensures answer { result ≡ (plan_of self.old i).answer }
+        ensures controller { self.new ≡ (plan_of self.old i).controller }
     {
         let Turn::Plan = self.turn else {
-            return self.refuse(Refusal::OutOfTurn);
+            return Err(Refusal::OutOfTurn);
         };
-        match ManeuverCommand::from_words(i.mode, i.words) {
-            Err(refusal) => self.refuse(refusal),
-            Ok(_) if i.estimator_failed => {
-                let closed = BodyController {
-                    turn: Turn::Sight,
-                    ..self
-                };
-                closed.refuse(Refusal::EstimatorFailed)
-            }
-            Ok(cmd) => self.decide(i, cmd),
+        let cmd = ManeuverCommand::from_words(i.mode, i.words)?;
+        if i.estimator_failed {
+            self.turn = Turn::Sight;
+            return Err(Refusal::EstimatorFailed);
+        }
+        let answer = self.context.decide(i.mode, i.halt, cmd, i.state_estimate);
+        self.turn = Turn::Steer(Planned { answer, cmd });
+        Ok(answer)
+    }
+
+    /// The decision on the tick's command, over the estimator's new estimate.
+    #[tactic(auto, using(crate::proofs::Numbers::plan_numbered))]
+    pub fn plan(mut self, i: PlanInput) -> Called<PlanAnswer>
+        ensures { (result ≡ plan_of self i) × (number_of result.answer ≡ plan_refusal self i) }
+    {
+        let answer = self.decide(i);
+        Called {
+            answer,
+            controller: self,
         }
     }
 }

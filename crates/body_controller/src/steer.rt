@@ -1,69 +1,75 @@
-// Steer, the tick's third call: tracking and recovery, stop and the twist's limits.
+//! Steer, the tick's third call: tracking and recovery, then stop, the twist's limits and friction (docs/RULES.md,
+//! 'Steer').
 ghost use Rattle.std.specs.Prelude.{◌≡◌};
 ghost use Rattle.tick.specs.Refusal.{number_of};
-ghost use Rattle.body_controller.specs.Steer.{steered, planner_failed, steer_of, steer_refusal};
+ghost use Rattle.body_controller.specs.Steer.{limited, steer_of, steer_refusal};
 
-use crate::answers::Limited;
-use crate::answers::steer::limit;
 use crate::{BodyController, Called, Turn};
-use control_context::Planned;
-use control_context::following::{Tracked, steer};
+use control_context::friction::friction_twist;
+use control_context::limits::{clamp_twist, stop_scaled};
+use control_context::tracking::ManeuverSetpoints;
 use linear::Vector3f;
+use linear::rotation::Rotation;
 use tick::inputs::SteerInput;
 use tick::refusal::Refusal;
 
+/// What steer leaves to finish.
+#[derive(Clone, Copy)]
+pub struct Steered {
+    /// The tick's setpoints, their twist limited.
+    pub setpoints: ManeuverSetpoints,
+    /// An entry of the twist is not what it was before `clamp`.
+    pub vel_clamped: bool,
+    /// By the estimate's heading.
+    pub heading: Rotation,
+}
+
+// The tick's setpoints, their twist scaled down in the stop state and clamped.
+fn limit(asked: ManeuverSetpoints, stop: bool, heading: Rotation) -> Steered
+    ensures { result ≡ limited asked stop heading }
+{
+    let clamp = clamp_twist(stop_scaled(stop, asked.body_twist));
+    Steered {
+        setpoints: ManeuverSetpoints {
+            body_twist: clamp.value,
+            ..asked
+        },
+        vel_clamped: clamp.clamped,
+        heading,
+    }
+}
+
 impl BodyController {
-    // The context steered, and its setpoints limited; finish is next.
-    #[tactic(auto, unfolding(crate::specs::Steer::steered))]
-    fn steer_by(self, planned: Planned, i: SteerInput) -> Called<Vector3f>
-        ensures { result ≡ steered self planned i }
-    {
-        let Tracked { setpoints, context } = steer(
-            self.context,
-            planned,
-            i.fresh,
-            i.next,
-            i.wheel_vel_meas,
-            self.choices.tick.seconds(),
-        );
-        let Limited {
-            friction_twist,
-            steered,
-        } = limit(setpoints, context.state_estimate, i.stop, i.heading);
-        Called {
-            answer: Ok(friction_twist),
-            controller: BodyController {
-                context,
-                turn: Turn::Finish(steered),
-                ..self
-            },
-        }
-    }
-
-    // A planner failure drops the trajectory and closes the tick.
-    #[tactic(auto, unfolding(crate::specs::Steer::planner_failed))]
-    fn fail_plan(self) -> Called<Vector3f>
-        ensures { result ≡ planner_failed self }
-    {
-        let closed = BodyController {
-            context: self.context.fail_plan(),
-            turn: Turn::Sight,
-            ..self
-        };
-        closed.refuse(Refusal::PlannerFailed)
-    }
-
-    // Refusals 2 and 12, then tracking, recovery and limits; answers the friction twist, local and gated.
-    #[tactic(auto, unfolding(crate::specs::Steer::steer_of, crate::specs::Steer::planner_failed, crate::specs::Steer::steered, crate::specs::Controller::refused))]
-    pub fn steer(self, i: SteerInput) -> Called<Vector3f>
-        ensures { (result ≡ steer_of self i) × (number_of result.answer ≡ steer_refusal self i) }
+    // A planner failure drops the trajectory and closes the tick; it counts only where a new plan was needed.
+    fn track(&mut self, i: SteerInput) -> Result<Vector3f, Refusal>
+        ensures answer { result ≡ (steer_of self.old i).answer }
+        ensures controller { self.new ≡ (steer_of self.old i).controller }
     {
         let Turn::Steer(planned) = self.turn else {
-            return self.refuse(Refusal::OutOfTurn);
+            return Err(Refusal::OutOfTurn);
         };
         if i.planner_failed & planned.answer.needs_plan() {
-            return self.fail_plan();
+            self.context.fail_plan();
+            self.turn = Turn::Sight;
+            return Err(Refusal::PlannerFailed);
         }
-        self.steer_by(planned, i)
+        let asked = self
+            .context
+            .steer(planned, i.fresh, i.next, i.wheel_vel_meas);
+        let steered = limit(asked, i.stop, i.heading);
+        self.turn = Turn::Finish(steered);
+        Ok(friction_twist(i.heading, self.context.state_estimate, steered.setpoints))
+    }
+
+    /// The setpoints that track what plan decided. Answers the twist that the robot model's friction force is to be
+    /// asked for, in local axes and gated.
+    pub fn steer(mut self, i: SteerInput) -> Called<Vector3f>
+        ensures { (result ≡ steer_of self i) × (number_of result.answer ≡ steer_refusal self i) }
+    {
+        let answer = self.track(i);
+        Called {
+            answer,
+            controller: self,
+        }
     }
 }

@@ -1,6 +1,6 @@
-// The tick limit: quiet blocks up to the first that is refused with 3.
+//! The tick limit: quiet blocks up to the first that is refused with 3.
 use crate::drive_next;
-use pass::driven::Pass;
+use pass::pass::Pass;
 use std::io;
 
 // One block more than a pass can drive.
@@ -14,14 +14,13 @@ fn put_number(block: &mut [u8; 512], number: u32) {
 
 // The blocks have version 1 and k = 4. Only a refused one is printed.
 pub(crate) fn drive_to_limit(rt: &HostRuntime) -> io::Result<()> {
-    // An array, since memory is fixed; all of it is the block.
     let mut block = [0; 512];
     block[0] = 1;
     block[420] = 4;
     let mut pass = Pass::Empty;
     for number in 0..BLOCKS {
         put_number(&mut block, number);
-        pass = drive_next(rt, pass, &block, false)?;
+        drive_next(rt, &mut pass, &block, false)?;
         if pass.next_number() != number + 1 {
             break;
         }

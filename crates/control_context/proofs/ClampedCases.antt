@@ -1,4 +1,4 @@
--- Document 01's starred case: twist 10.0 is unclamped; NaN stays NaN and is marked clamped. By computation. Assumes nothing.
+-- Worked cases: twist 10.0 is unclamped; NaN stays NaN and is marked clamped. By computation.
 use mathlib.Core.Path.{◌≡◌, refl}
 use mathlib.Core.Bool.{true, false}
 use lib.Ieee.{nan, binary32, of_bits, lt, eq, ne, neg}
@@ -12,7 +12,7 @@ abbrev at_bounds : Vector3f
 at_bounds = record { x = of_bits binary32 0x4120_0000; y = of_bits binary32 0x4120_0000; z = of_bits binary32 0x41fb_53d2 }
 
 pub ten_unclamped : twist_clamped at_bounds ≡ record { value = at_bounds; clamped = false }
-unfolding twist_clamped clamped_to clamp_within lt eq ne neg of_bits
+unfolding clamped_to clamp_within lt eq ne neg of_bits
 ten_unclamped = refl
 
 -- v stays and is marked
@@ -21,5 +21,5 @@ StaysMarked v = twist_clamped v ≡ record { value = v; clamped = true }
 
 -- a NaN in any one entry, the others 0.0
 pub nan_marked : StaysMarked (record { x = nan; y = zero_float; z = zero_float }) × (StaysMarked (record { x = zero_float; y = nan; z = zero_float }) × StaysMarked (record { x = zero_float; y = zero_float; z = nan }))
-unfolding twist_clamped clamped_to clamp_within lt eq ne neg of_bits
+unfolding clamped_to clamp_within lt eq ne neg of_bits
 nan_marked = (refl, (refl, refl))

@@ -1,5 +1,4 @@
 -- The clamps: every entry is within its bound or NaN, and without the mark it is equal to the one given. One law over the bounds serves twist and acceleration.
--- Assumes nothing.
 use mathlib.Core.Path.{◌≡◌, refl}
 use mathlib.Core.Bool.{Bool, true, false, not, ◌&&◌, ◌||◌, true≢false}
 use lib.Dec.{T}
@@ -15,11 +14,11 @@ unfolding clamped_to
 clamped_bounded linear angular v p q = (clamp_within_within v.x linear p, (clamp_within_within v.y linear p, clamp_within_within v.z angular q))
 
 pub twist_bounded : (v : Vector3f) → BoundedEntries body_vel_clamp_linear body_vel_clamp_angular (twist_clamped v).value
-unfolding twist_clamped lt eq le neg of_bits
+unfolding lt eq le neg of_bits
 twist_bounded v = clamped_bounded body_vel_clamp_linear body_vel_clamp_angular v tt tt
 
 pub accel_bounded : (v : Vector3f) → BoundedEntries body_accel_clamp_linear body_accel_clamp_angular (accel_clamped v).value
-unfolding accel_clamped lt eq le neg of_bits
+unfolding lt eq le neg of_bits
 accel_bounded v = clamped_bounded body_accel_clamp_linear body_accel_clamp_angular v tt tt
 
 -- ---- the mark

@@ -1,4 +1,4 @@
--- What plan's decision forgets and what it keeps, and where a new plan's seed comes from. Assumes nothing.
+-- What plan's decision forgets and what it keeps, and where a new plan's seed comes from.
 use Prim.Native.Nat.{ℕ}
 use mathlib.Core.Path.{◌≡◌, refl}
 use mathlib.Core.Bool.{Bool, true, false, cond}
@@ -9,28 +9,28 @@ use Rattle.tick.specs.declared.command.ManeuverCommand.{ManeuverCommand}
 use Rattle.tick.specs.declared.sample.Sample.{Sample}
 use Rattle.std.specs.Prelude.{Some}
 use Rattle.control_context.specs.declared.memory.Memory.{Memory}
-use Rattle.control_context.specs.declared.maneuvers.answer.PlanAnswer.TheVariants.{Hold, NoVision, Keep, NewPlan}
+use Rattle.control_context.specs.declared.maneuvers.PlanAnswer.TheVariants.{Hold, NoVision, Keep, NewPlan}
 use Rattle.control_context.specs.Memory.{empty_memory}
-use Rattle.control_context.specs.Plan.{holds, hold, in_mode, plans_anew, seed_of, maneuver_answer, decided}
+use Rattle.control_context.specs.Plan.{holds, hold, in_mode, plans_anew, seed_of, decided}
 
 module _ (mode : ℕ) (halt recovering vision : Bool) (cmd : ManeuverCommand) (m : Memory) (prev : ℕ) (estimate : Vector6f) where
   -- hold forgets everything
   pub hold_forgets : holds mode halt recovering ≡ true
       → decided mode halt recovering vision cmd m prev estimate ≡ record { answer = Hold; memory = empty_memory; prev_mode = 0 }
-  unfolding decided hold
+  unfolding decided
   hold_forgets h = rw h
 
   -- a changed mode plans anew from the estimate, whatever was held
   pub changed_mode : holds mode halt recovering ≡ false
       → eqb mode prev ≡ false
       → decided mode halt recovering true cmd m prev estimate ≡ record { answer = NewPlan estimate; memory = empty_memory; prev_mode = mode }
-  unfolding decided in_mode maneuver_answer empty_memory
+  unfolding decided
   changed_mode h changed = rw (h, changed)
 
   -- no vision in an unchanged mode changes nothing that is remembered
   pub no_vision_keeps : holds mode halt recovering ≡ false
       → decided mode halt recovering false cmd m mode estimate ≡ record { answer = NoVision; memory = m; prev_mode = mode }
-  unfolding decided in_mode maneuver_answer
+  unfolding decided
   no_vision_keeps h = rw (h, eq-eqb mode mode refl)
 
   -- while a sample is held, no new plan starts from the estimate: the seed is the sample's state
@@ -38,7 +38,7 @@ module _ (mode : ℕ) (halt recovering vision : Bool) (cmd : ManeuverCommand) (m
       → (in_mode m mode prev).held ≡ Some s
       → (decided mode halt recovering vision cmd m prev estimate).answer ≡ NewPlan seed
       → seed ≡ s.state
-  unfolding decided hold maneuver_answer
+  unfolding decided
   seed_held s seed here new = go (holds mode halt recovering) vision (plans_anew (in_mode m mode prev) cmd) new
     where
       go : (b v anew : Bool)

@@ -1,4 +1,4 @@
--- What equality as floats means for commands. Assumes nothing.
+-- What equality as floats means for commands.
 use Prim.Native.Nat.{ℕ, ◌*◌}
 use mathlib.Core.Path.{◌≡◌, refl, sym, ap, ◌∙◌, subst}
 use mathlib.Core.Bool.{Bool, true, false, not, ◌&&◌, ◌||◌, beq}
@@ -53,7 +53,6 @@ fields_sym (x ∷ xs) [] = refl
 fields_sym (x ∷ xs) (y ∷ ys) = rw (eq-sym x y, fields_sym xs ys)
 
 pub equal_symmetric : (a b : ManeuverCommand) → equal a b ≡ equal b a
-unfolding equal
 equal_symmetric a b = rw (eqb-sym (mode_of a) (mode_of b), fields_sym (fields_of a) (fields_of b))
 
 -- ---- a command equals itself exactly where no field is NaN
@@ -72,7 +71,6 @@ fields_self [] = refl
 fields_self (x ∷ xs) = rw (eq_self x, fields_self xs)
 
 pub equal_itself : (a : ManeuverCommand) → equal a a ≡ no_nan (fields_of a)
-unfolding equal
 equal_itself a = rw (eq-eqb (mode_of a) (mode_of a) refl, fields_self (fields_of a))
 
 -- -0.0 equals 0.0

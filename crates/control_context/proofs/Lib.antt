@@ -5,4 +5,3 @@ pub mod ClampedLaws
 pub mod ClampedCases
 pub mod DecisionLaws
 pub mod EqualityLaws
-pub mod PoseLaws

@@ -1,16 +1,15 @@
--- Plan's four answers: their numbers, and what each asks for. Assumes nothing.
+-- Plan's four answers: their numbers, and what each asks for (docs/RULES.md, 'Plan').
 use Rattle.std.specs.Prelude.{ℕ, Bool, true, false}
-use Rattle.control_context.specs.declared.maneuvers.answer.PlanAnswer.{PlanAnswer}
-use Rattle.control_context.specs.declared.maneuvers.answer.PlanAnswer.TheVariants.{Hold, NoVision, Keep, NewPlan}
+use Rattle.control_context.specs.declared.maneuvers.PlanAnswer.{PlanAnswer}
+use Rattle.control_context.specs.declared.maneuvers.PlanAnswer.TheVariants.{Hold, NoVision, Keep, NewPlan}
 
--- the number of an answer, in document 01's order: 0 hold, 1 no vision, 2 keep, 3 new plan
 abbrev pub answer_number : PlanAnswer → ℕ
 answer_number Hold = 0
 answer_number NoVision = 1
 answer_number Keep = 2
 answer_number (NewPlan seed) = 3
 
--- 'Modes 2 and 3 without active vision disable the wheels'
+-- without active vision modes 2 and 3 disable the wheels
 abbrev pub disables_wheels : PlanAnswer → Bool
 disables_wheels Hold = false
 disables_wheels NoVision = true

@@ -1,4 +1,4 @@
--- The clamps, document 01, 'Steer' and 'Finish'. Assumes nothing.
+-- The clamps of twist and acceleration (docs/RULES.md, 'Stop and limits').
 use Rattle.std.specs.Prelude.{Bool, ◌||◌, Float}
 use Rattle.std.specs.Float.Ieee.{ne}
 use Rattle.ieee754.specs.Clamp.{clamp_within}
@@ -14,14 +14,12 @@ within linear angular v = record { x = clamp_within v.x linear; y = clamp_within
 abbrev pub differs : Vector3f → Vector3f → Bool
 differs u v = ne u.x v.x || ne u.y v.y || ne u.z v.z
 
--- 'Steer' and 'Finish': the clamp and its mark
+-- the clamp and its mark
 unfoldable pub clamped_to : Float → Float → Vector3f → Clamped
 clamped_to linear angular v = record { value = within linear angular v; clamped = differs (within linear angular v) v }
 
--- 'Steer': twist clamps 10.0 and 5.0·TAU
-unfoldable pub twist_clamped : Vector3f → Clamped
+abbrev pub twist_clamped : Vector3f → Clamped
 twist_clamped v = clamped_to body_vel_clamp_linear body_vel_clamp_angular v
 
--- 'Finish': acceleration clamps 20.0 and 100.0
-unfoldable pub accel_clamped : Vector3f → Clamped
+abbrev pub accel_clamped : Vector3f → Clamped
 accel_clamped v = clamped_to body_accel_clamp_linear body_accel_clamp_angular v

@@ -1,4 +1,4 @@
--- The limits of the tracking errors and of a wheel at rest, document 01, 'Steer'. Assumes nothing.
+-- The limits of the tracking errors and of a wheel at rest (docs/RULES.md, 'Recovery').
 use Rattle.std.specs.Prelude.{Bool, ◌&&◌, ◌||◌, Float}
 use Rattle.std.specs.Float.Ieee.{lt}
 use Rattle.ieee754.specs.Magnitude.{magnitude}
@@ -6,8 +6,8 @@ use Rattle.linear.specs.declared.Vector4f.{Vector4f}
 use Rattle.params.specs.declared.TrackingErrors.{TrackingErrors}
 use Rattle.params.specs.Params.{tracking_divergence_recovery_rest_wheel_vel}
 
--- 'Steer': an error exceeds its limit; NaN exceeds nothing
-unfoldable pub any_exceeds : TrackingErrors → TrackingErrors → Bool
+-- an error exceeds its limit; NaN exceeds nothing
+abbrev pub any_exceeds : TrackingErrors → TrackingErrors → Bool
 any_exceeds e l =
     lt l.pos_linear e.pos_linear || lt l.pos_angular e.pos_angular
     || lt l.vel_linear e.vel_linear || lt l.vel_angular e.vel_angular
@@ -16,6 +16,6 @@ any_exceeds e l =
 abbrev pub wheel_at_rest : Float → Bool
 wheel_at_rest w = lt (magnitude w) tracking_divergence_recovery_rest_wheel_vel
 
--- 'Steer': every |wheel| < 50.0
-unfoldable pub at_rest : Vector4f → Bool
+-- every wheel is
+abbrev pub at_rest : Vector4f → Bool
 at_rest w = wheel_at_rest w.x && wheel_at_rest w.y && wheel_at_rest w.z && wheel_at_rest w.w

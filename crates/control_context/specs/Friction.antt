@@ -1,5 +1,5 @@
--- The friction twist, local and gated, a term of document 01, 'Steer'. Assumes nothing.
-use Rattle.std.specs.Prelude.{Bool, cond, ◌||◌, Float}
+-- The friction twist, local and gated (docs/RULES.md, 'Friction').
+use Rattle.std.specs.Prelude.{Bool, if◌then◌else◌, ◌||◌, Float}
 use Rattle.std.specs.Float.Ieee.{le}
 use Rattle.ieee754.specs.Magnitude.{magnitude}
 use Rattle.ieee754.specs.Hypot.{hypotenuse}
@@ -8,22 +8,22 @@ use Rattle.linear.specs.declared.Vector6f.{Vector6f}
 use Rattle.linear.specs.Vector.{zero_float}
 use Rattle.linear.specs.declared.rotation.Rotation.{Rotation}
 use Rattle.linear.specs.Rotation.{to_local}
-use Rattle.control_context.specs.declared.setpoints.ManeuverSetpoints.{ManeuverSetpoints}
+use Rattle.control_context.specs.declared.tracking.ManeuverSetpoints.{ManeuverSetpoints}
 use Rattle.params.specs.Params.{friction_comp_gating}
 
--- 'Steer': gates 0.1 for the linear velocity and 0.5 for the linear acceleration, both inclusive
-unfoldable pub linear_comp_on : Vector3f → Vector3f → Bool
+-- gates 0.1 for the linear velocity and 0.5 for the linear acceleration, both inclusive
+abbrev pub linear_comp_on : Vector3f → Vector3f → Bool
 linear_comp_on vel accel = le friction_comp_gating.linear_accel (hypotenuse accel.x accel.y) || le friction_comp_gating.linear_vel (hypotenuse vel.x vel.y)
 
--- 'Steer': gates 0.5 for the angular velocity and 1.0 for the angular acceleration, both inclusive
-unfoldable pub angular_comp_on : Vector3f → Vector3f → Bool
+-- gates 0.5 for the angular velocity and 1.0 for the angular acceleration, both inclusive
+abbrev pub angular_comp_on : Vector3f → Vector3f → Bool
 angular_comp_on vel accel = le friction_comp_gating.angular_accel (magnitude accel.z) || le friction_comp_gating.angular_vel (magnitude vel.z)
 
 -- an entry that is not on is 0.0
-unfoldable pub kept_if : Bool → Float → Float
-kept_if on x = cond on x zero_float
+abbrev pub kept_if : Bool → Float → Float
+kept_if on x = if on then x else zero_float
 
--- 'Steer': the twist in local axes, each entry kept where its gate is on; the gates judge the estimate's velocity and the acceleration, in local axes too
+-- the twist in local axes, each entry kept where its gate is on; the gates judge the estimate's velocity and the acceleration, in local axes too
 unfoldable pub friction_twist : Rotation → Vector6f → ManeuverSetpoints → Vector3f
 friction_twist heading estimate setpoints =
     let vel = to_local heading estimate.twist in

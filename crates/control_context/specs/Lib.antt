@@ -1,5 +1,4 @@
 -- Definitions that the contracts of `control_context` cite.
-pub mod ZeroSetpoints
 pub mod Setpoints
 pub mod ErrorLimits
 pub mod Divergence
@@ -17,4 +16,3 @@ pub mod Context
 pub mod StateEstimate
 pub mod Decision
 pub mod Following
-pub mod Pose

@@ -8,7 +8,7 @@ use Rattle.tick.specs.Command.{fields_of}
 use Rattle.tick.specs.declared.sample.Sample.{Sample}
 use Rattle.control_context.specs.declared.memory.Memory.{Memory}
 use Rattle.control_context.specs.Memory.{empty_memory}
-use Rattle.control_context.specs.declared.maneuvers.answer.PlanAnswer.TheVariants.{Hold, NoVision, NewPlan}
+use Rattle.control_context.specs.declared.maneuvers.PlanAnswer.TheVariants.{Hold, NoVision, NewPlan}
 use Rattle.control_context.specs.Equality.{fields_equal, equal}
 use Rattle.control_context.specs.Plan.{holds, in_mode, decided}
 

@@ -1,30 +1,31 @@
--- Sight's work on a context, document 01, 'The tick's four calls': wheels, gate and drops. Assumes nothing.
-use Rattle.std.specs.Prelude.{false, cond, Float, Option}
+-- Sight's work on a context: wheels, gate and drops (docs/RULES.md, 'Sight').
+use Rattle.std.specs.Prelude.{false, if◌then◌else◌, Option}
 use Rattle.linear.specs.declared.Vector3f.{Vector3f}
 use Rattle.linear.specs.declared.Vector6f.{Vector6f}
 use Rattle.tick.specs.declared.action.GateAction.{GateAction}
-use Rattle.vision.specs.declared.Vision.{Vision}
 use Rattle.tick.specs.Outcome.{overwrites}
+use Rattle.controllers.specs.PidAxes.{new_memory}
+use Rattle.vision.specs.declared.Vision.{Vision}
 use Rattle.vision.specs.Vision.{vision_after}
 use Rattle.control_context.specs.Memory.{empty_memory}
-use Rattle.control_context.specs.ZeroSetpoints.{empty_pid}
-use Rattle.control_context.specs.declared.ControlContext.{ControlContext}
-use Rattle.control_context.specs.declared.state_estimate.Seen.{Seen}
+use Rattle.control_context.specs.declared.context.ControlContext.{ControlContext}
 
--- 'enables the wheels, then the gate'; 'C and J .. drop trajectory, previous command and PID memory'
+-- the gate's answer, and the context that it leaves
+pub record Seen : Type 0 where
+  pub action : GateAction
+  pub context : ControlContext
+
+-- the wheels are enabled; where the filter's state is overwritten, trajectory, previous command and the PID's memory are dropped
 abbrev pub after_sight : ControlContext → GateAction → Vision → ControlContext
-after_sight c a vision = record {
+after_sight c a vision = record c {
   vision = vision;
-  memory = cond (overwrites a) empty_memory c.memory;
-  divergence = c.divergence;
-  pose_pid = cond (overwrites a) empty_pid c.pose_pid;
-  state_estimate = c.state_estimate;
-  prev_mode = c.prev_mode;
+  memory = if overwrites a then empty_memory else c.memory;
+  pose_pid = if overwrites a then new_memory else c.pose_pid;
   wheels_disabled = false;
 }
 
--- from the sighting, if there is one, the predicted state and the tick's length in seconds
-unfoldable pub seen : ControlContext → Option Vector3f → Vector6f → Float → Seen
-seen c sighting predicted dt =
-    let v = vision_after c.vision sighting predicted dt in
+-- from the sighting, if there is one, and the predicted state
+unfoldable pub seen : ControlContext → Option Vector3f → Vector6f → Seen
+seen c sighting predicted =
+    let v = vision_after c.vision sighting predicted c.start in
     record { action = v.action; context = after_sight c v.action v.vision }

@@ -6,7 +6,7 @@ use Rattle.linear.specs.declared.Vector3f.{Vector3f}
 use Rattle.linear.specs.declared.Vector4f.{Vector4f}
 use Rattle.linear.specs.declared.Vector6f.{Vector6f}
 use Rattle.params.specs.Params.{body_accel_clamp_linear, body_accel_clamp_angular, body_vel_clamp_linear, body_vel_clamp_angular}
-use Rattle.control_context.specs.declared.divergence.TrackingDivergenceState.TheVariants.{Normal}
+use Rattle.control_context.specs.declared.recovery.TrackingDivergenceState.TheVariants.{Normal}
 use Rattle.control_context.specs.Clamped.{clamped_to, twist_clamped, accel_clamped}
 use Rattle.control_context.specs.Recovery.{recovery}
 

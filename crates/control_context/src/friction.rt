@@ -1,16 +1,15 @@
-// Document 01, 'Steer': the friction twist, local and gated.
+//! The twist that friction is compensated for, in local axes (docs/RULES.md, 'Friction').
 
 ghost use Rattle.std.specs.Prelude.{◌≡◌};
 ghost use Rattle.control_context.specs.Friction.{linear_comp_on, angular_comp_on, kept_if, friction_twist};
 
-use crate::setpoints::ManeuverSetpoints;
+use crate::tracking::ManeuverSetpoints;
 use ieee754::bits::abs;
 use ieee754::hypot::hypot;
 use linear::rotation::Rotation;
 use linear::{Vector3f, Vector6f};
 use params::FRICTION_COMP_GATING;
 
-#[tactic(auto, unfolding(crate::specs::Friction::linear_comp_on))]
 fn linear_comp_on(vel: Vector3f, accel: Vector3f) -> bool
     ensures { result ≡ linear_comp_on vel accel }
 {
@@ -18,7 +17,6 @@ fn linear_comp_on(vel: Vector3f, accel: Vector3f) -> bool
         | (hypot(vel.x, vel.y) >= FRICTION_COMP_GATING.linear_vel)
 }
 
-#[tactic(auto, unfolding(crate::specs::Friction::angular_comp_on))]
 fn angular_comp_on(vel: Vector3f, accel: Vector3f) -> bool
     ensures { result ≡ angular_comp_on vel accel }
 {
@@ -26,14 +24,14 @@ fn angular_comp_on(vel: Vector3f, accel: Vector3f) -> bool
         | (abs(vel.z) >= FRICTION_COMP_GATING.angular_vel)
 }
 
-#[tactic(auto, unfolding(crate::specs::Friction::kept_if))]
 fn kept_if(on: bool, x: f32) -> f32
     ensures { result ≡ kept_if on x }
 {
     if on { x } else { 0.0 }
 }
 
-// `heading` is the estimate's.
+/// The twist of `compute_friction`, before the friction force: each entry where its gate is on, and else 0.0.
+/// `heading` is the estimate's.
 #[tactic(auto, unfolding(crate::specs::Friction::friction_twist))]
 pub fn friction_twist(
     heading: Rotation,

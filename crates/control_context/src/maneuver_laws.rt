@@ -1,7 +1,7 @@
 // What is proved of plan's decision and of equality of commands: functions that do nothing, for their clauses.
 
-ghost use Rattle.control_context.specs.ManeuverLaws.{EqualityIsSymmetric, EqualsItselfWithoutNan, ZerosAreEqual, HoldForgets};
-ghost use Rattle.control_context.specs.ManeuverLaws.{ChangedModePlansAnew, NoVisionKeeps, SeedIsHeldState};
+ghost use Rattle.control_context.specs.ManeuverLaws.{EqualityIsSymmetric, EqualsItselfWithoutNan, ZerosAreEqual};
+ghost use Rattle.control_context.specs.ManeuverLaws.{HoldForgets, ChangedModePlansAnew, NoVisionKeeps, SeedIsHeldState};
 
 /// Equality of commands is symmetric, and fails of a command and itself exactly where a field is NaN.
 pub fn equality_is_by_floats()

@@ -1,91 +1,118 @@
-// The tick's one decision over mode, halt, recovery and vision.
-pub mod answer; // answer.rt: plan's four answers
-pub mod equality; // equality.rt: when two commands are equal, and whether the command changed
+//! Plan's work: the one decision over mode, halt, recovery and vision (docs/RULES.md, 'Plan').
 
 ghost use Rattle.std.specs.Prelude.{◌≡◌};
-ghost use Rattle.control_context.specs.Plan.{in_mode, maneuver_answer, decided, number_decided};
-ghost use Rattle.control_context.specs.Answer.{answer_number};
+ghost use Rattle.vision.specs.Vision.{active};
+ghost use Rattle.control_context.specs.Answer.{answer_number, disables_wheels, needs_plan};
+ghost use Rattle.control_context.specs.Decision.{decided_on, decision_on, number_on};
+ghost use Rattle.control_context.specs.Equality.{equal, command_changed};
+ghost use Rattle.control_context.specs.Plan.{maneuver_answer};
 
-use crate::maneuvers::answer::PlanAnswer;
-use crate::maneuvers::equality::command_changed;
+use crate::context::ControlContext;
 use crate::memory::Memory;
 use linear::Vector6f;
 use tick::command::ManeuverCommand;
 
-// An answer, beside the memory and the previous mode that plan leaves.
-// Both by value, no `&mut` and no pair: document 01 has an answer struct beside the new state.
+/// What plan answers.
 #[derive(Clone, Copy)]
-pub struct Decision {
-    pub answer: PlanAnswer,
-    pub memory: Memory,
-    // A number, as in `decide`.
-    pub prev_mode: u32,
+pub enum PlanAnswer {
+    Hold,
+    NoVision,
+    /// The held trajectory is tracked on.
+    Keep,
+    /// A new trajectory is needed, from this state on.
+    NewPlan(Vector6f),
 }
 
-// A changed mode drops trajectory and previous command. Modes are numbers, as in `decide`.
-#[tactic(auto, unfolding(crate::specs::Plan::in_mode))]
-fn in_mode(memory: Memory, mode: u32, prev_mode: u32) -> Memory
-    ensures { result ≡ in_mode memory mode prev_mode }
-{
-    if mode == prev_mode {
-        return memory;
+impl PlanAnswer {
+    /// Without vision the wheels are disabled.
+    pub fn disables_wheels(self) -> bool
+        ensures { result ≡ disables_wheels self }
+    {
+        matches!(self, PlanAnswer::NoVision)
     }
-    Memory::empty()
+
+    /// Whether a planner failure counts.
+    pub fn needs_plan(self) -> bool
+        ensures { result ≡ needs_plan self }
+    {
+        matches!(self, PlanAnswer::NewPlan(_))
+    }
 }
 
-// What modes 2 and 3 answer.
-#[tactic(auto, unfolding(crate::specs::Plan::maneuver_answer))]
-fn maneuver_answer(
-    memory: Memory,
-    vision_active: bool,
-    cmd: ManeuverCommand,
-    estimate: Vector6f,
-) -> PlanAnswer
-    ensures { result ≡ maneuver_answer memory vision_active cmd estimate }
+/// The Rust's derived equality: the same kind, and the fields equal as floats. A NaN equals nothing, and -0.0
+/// equals 0.0.
+#[tactic(auto, unfolding(crate::specs::Equality::fields_equal))]
+pub fn commands_equal(c: ManeuverCommand, o: ManeuverCommand) -> bool
+    ensures { result ≡ equal c o }
 {
-    if !vision_active {
-        return PlanAnswer::NoVision;
-    }
-    match memory.held {
-        None => PlanAnswer::NewPlan(estimate),
-        Some(sample) if command_changed(memory.prev_cmd, cmd) => {
-            PlanAnswer::NewPlan(sample.state)
+    c == o
+}
+
+// Whether the command is another than the previous one, or there was none.
+#[tactic(auto, unfolding(crate::specs::Equality::fields_equal))]
+pub(crate) fn command_changed(prev_cmd: Option<ManeuverCommand>, cmd: ManeuverCommand) -> bool
+    ensures { result ≡ command_changed prev_cmd cmd }
+{
+    prev_cmd != Some(cmd)
+}
+
+impl ControlContext {
+    // What modes 2 and 3 answer: without vision nothing is tracked.
+    fn maneuver_answer(&self, cmd: ManeuverCommand) -> PlanAnswer
+        ensures { result
+            ≡ maneuver_answer self.now.memory (active self.now.vision.time_since_vision_update_s) cmd
+            self.now.state_estimate }
+    {
+        if !self.vision.vision_active() {
+            return PlanAnswer::NoVision;
         }
-        Some(_) => PlanAnswer::Keep,
+        match self.memory.held {
+            None => PlanAnswer::NewPlan(self.state_estimate),
+            Some(sample) if command_changed(self.memory.prev_cmd, cmd) => {
+                PlanAnswer::NewPlan(sample.state)
+            }
+            Some(_) => PlanAnswer::Keep,
+        }
     }
-}
 
-// The one decision over mode, halt, recovery and vision.
-// The modes are numbers: document 01 has a match on the mode number with ranges.
-// Eight parameters from three places: a struct of them would be made for this call alone.
-#[tactic(auto, unfolding(crate::specs::Plan::maneuver_answer, crate::specs::Plan::decided, crate::specs::Plan::number_decided, crate::specs::Plan::hold))]
-pub fn decide(
-    mode: u32,
-    halt: bool,
-    recovering: bool,
-    vision_active: bool,
-    cmd: ManeuverCommand,
-    mut memory: Memory,
-    prev_mode: u32,
-    estimate: Vector6f,
-) -> Decision
-    ensures value { result ≡ decided mode halt recovering vision_active cmd memory prev_mode estimate }
-    ensures answer_value { answer_number result.answer ≡ number_decided mode halt recovering vision_active cmd memory prev_mode }
-{
-    match mode {
-        2..=3 if !(halt | recovering) => {
-            memory = in_mode(memory, mode, prev_mode);
-            Decision {
-                answer: maneuver_answer(memory, vision_active, cmd, estimate),
-                memory,
-                prev_mode: mode,
+    // The one decision. A number that is no mode holds: callers refuse it first.
+    #[tactic(auto, unfolding(crate::specs::Plan::decided))]
+    fn plan_answer(&mut self, mode: u32, halt: bool, cmd: ManeuverCommand) -> PlanAnswer
+        ensures { let d = decision_on self.old mode halt cmd self.old.state_estimate in
+            (result ≡ d.answer) × (self.new ≡ record self.old { memory = d.memory; prev_mode = d.prev_mode }) }
+    {
+        match mode {
+            2..=3 if !(halt | self.divergence.recovering()) => {
+                if mode != self.prev_mode {
+                    self.memory = Memory::empty();
+                    self.prev_mode = mode;
+                }
+                self.maneuver_answer(cmd)
+            }
+            _ => {
+                self.memory = Memory::empty();
+                self.prev_mode = 0;
+                PlanAnswer::Hold
             }
         }
-        // A number that is no mode holds too: callers refuse it first, with 4.
-        _ => Decision {
-            answer: PlanAnswer::Hold,
-            memory: Memory::empty(),
-            prev_mode: 0,
-        },
+    }
+
+    /// Sets the estimate, and decides on the command.
+    #[tactic(auto, unfolding(crate::specs::Decision::decided_on, crate::specs::Plan::decided))]
+    pub fn decide(
+        &mut self,
+        mode: u32,
+        halt: bool,
+        cmd: ManeuverCommand,
+        state_estimate: Vector6f,
+    ) -> PlanAnswer
+        ensures value { let d = decided_on self.old mode halt cmd state_estimate in
+            (result ≡ d.answer) × (self.new ≡ d.context) }
+        ensures number { answer_number result ≡ number_on self.old mode halt cmd }
+    {
+        self.state_estimate = state_estimate;
+        let answer = self.plan_answer(mode, halt, cmd);
+        self.wheels_disabled |= answer.disables_wheels();
+        answer
     }
 }

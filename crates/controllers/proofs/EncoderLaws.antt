@@ -1,4 +1,4 @@
--- A reset leaves a new lag's state. Assumes nothing.
+-- A reset leaves a new lag's state.
 use Rattle.std.proofs.Common.{◌≡◌, ℕ, refl}
 use Rattle.controllers.specs.declared.first_order_lag.FirstOrderLag.{FirstOrderLag}
 use Rattle.controllers.specs.FirstOrderLag.{reset_of}

@@ -1,29 +1,32 @@
--- The entries and the length of the lists that the definitions of specs/Axes.antt make. Assumes nothing.
+-- The entries and the length of the lists that the definitions of specs/Axes.antt make.
 use Rattle.std.proofs.Common.{◌≡◌, ◌∙◌, sym, ℕ, zero, suc, ◌<◌, List, [], ◌∷◌, length, get_or, refl, ap, arith, not-suc-le-zero, le_of_suc-le-suc}
 use lib.Ieee.{Float, nan}
-use Rattle.controllers.specs.declared.pid.PidController.{PidController}
-use Rattle.controllers.specs.declared.pid.PidAnswer.{PidAnswer}
-use Rattle.controllers.specs.Axis as axis
+use Rattle.std.specs.Prelude.{None}
+use Rattle.controllers.specs.declared.pid.PidSettings.{PidSettings}
+use Rattle.controllers.specs.declared.pid.AxisMemory.{AxisMemory}
+use Rattle.controllers.specs.declared.pid.PidMemory.{PidMemory}
+use Rattle.controllers.specs.Axis.{AxisAnswer, one_calculated, one_with_derivative}
 use Rattle.controllers.specs.Axes.{Ask, calculate, calculate_with_derivative, answer, answers, asks, asks_with_derivative}
-use Rattle.controllers.specs.declared.pid.axes.PidAxes.{PidAxes}
-use Rattle.controllers.specs.declared.pid.axes.PidAxesAnswer.{PidAxesAnswer}
-use Rattle.controllers.specs.PidAxes.{joined, calculated, calculated_with_derivative, EachAnswer}
+use Rattle.controllers.specs.PidAxes.{joined, calculated, calculated_with_derivative}
 use Rattle.controllers.proofs.Mapped.{mapped}
 
-answer_at : (parts : List Ask) (cs : List PidController) (i : ℕ) (part : Ask) (c : PidController) (d : PidAnswer)
-    → i < length parts → i < length cs → get_or (answers parts cs) i d ≡ answer (get_or parts i part) (get_or cs i c)
+answer_at : (parts : List Ask) (cs : List PidSettings) (ms : List AxisMemory) (i : ℕ) (part : Ask) (c : PidSettings) (m : AxisMemory) (d : AxisAnswer)
+    → i < length parts → i < length cs → i < length ms → get_or (answers parts cs ms) i d ≡ answer (get_or parts i part) (get_or cs i c) (get_or ms i m)
 unfolding answers
-answer_at [] cs i part c d h k = absurd (not-suc-le-zero h)
-answer_at (a ∷ parts) [] i part c d h k = absurd (not-suc-le-zero k)
-answer_at (a ∷ parts) (b ∷ cs) zero part c d h k = refl
-answer_at (a ∷ parts) (b ∷ cs) (suc i) part c d h k = answer_at parts cs i part c d (le_of_suc-le-suc h) (le_of_suc-le-suc k)
+answer_at [] cs ms i part c m d h k l = absurd (not-suc-le-zero h)
+answer_at (a ∷ parts) [] ms i part c m d h k l = absurd (not-suc-le-zero k)
+answer_at (a ∷ parts) (b ∷ cs) [] i part c m d h k l = absurd (not-suc-le-zero l)
+answer_at (a ∷ parts) (b ∷ cs) (o ∷ ms) zero part c m d h k l = refl
+answer_at (a ∷ parts) (b ∷ cs) (o ∷ ms) (suc i) part c m d h k l = answer_at parts cs ms i part c m d (le_of_suc-le-suc h) (le_of_suc-le-suc k) (le_of_suc-le-suc l)
 
-answers_length : (parts : List Ask) (cs : List PidController) → length parts ≡ length cs → length (answers parts cs) ≡ length cs
+answers_length : (parts : List Ask) (cs : List PidSettings) (ms : List AxisMemory) → length parts ≡ length ms → length cs ≡ length ms → length (answers parts cs ms) ≡ length ms
 unfolding answers
-answers_length [] [] h = refl
-answers_length [] (c ∷ cs) h = absurd (omega arith)
-answers_length (a ∷ parts) [] h = refl
-answers_length (a ∷ parts) (c ∷ cs) h = ap suc (answers_length parts cs (omega arith))
+answers_length [] cs [] h k = refl
+answers_length [] cs (m ∷ ms) h k = absurd (omega arith)
+answers_length (a ∷ parts) [] [] h k = refl
+answers_length (a ∷ parts) [] (m ∷ ms) h k = absurd (omega arith)
+answers_length (a ∷ parts) (c ∷ cs) [] h k = refl
+answers_length (a ∷ parts) (c ∷ cs) (m ∷ ms) h k = ap suc (answers_length parts cs ms (omega arith) (omega arith))
 
 pub ask_at : (ss vs : List Float) (dt : Float) (i : ℕ) (part : Ask) (s v : Float) → i < length ss → i < length vs → get_or (asks ss vs dt) i part ≡ calculate (get_or ss i s) (get_or vs i v) dt
 ask_at [] vs dt i part s v h k = absurd (not-suc-le-zero h)
@@ -52,31 +55,42 @@ derivatives_length (x ∷ ss) (y ∷ vs) (z ∷ ds) dt h k = ap suc (derivatives
 
 -- ---- an answer whose every entry is an axis's
 
-joined_is : {n : ℕ} (parts : List Ask) (cs : List PidController) (a : PidAxesAnswer n)
-    → length parts ≡ n → length cs ≡ n → length a.output ≡ n → length a.controller.axes ≡ n
-    → ((i : ℕ) (p : Ask) (d e : PidController) (x : Float) → i < n → record { output = get_or a.output i x; controller = get_or a.controller.axes i e } ≡ answer (get_or parts i p) (get_or cs i d))
-    → a ≡ joined (answers parts cs)
+-- the first n entries are axes' answers, to what R says at each
+abbrev pub EachIs : ℕ → List PidSettings → List AxisMemory → List Float → List AxisMemory → (ℕ → PidSettings → AxisMemory → AxisAnswer) → Type 0
+EachIs n cs ms os es f =
+    (i : ℕ) (c : PidSettings) (m e : AxisMemory) (x : Float) → i < n → record { output = get_or os i x; memory = get_or es i e } ≡ f i (get_or cs i c) (get_or ms i m)
+
+-- settings to stand where none are asked for
+settings_of : Float → PidSettings
+settings_of x = record { gain = record { kp = x; ki = x; kd = x; ki_err_min = x; ki_err_max = x }; anti_jitter_thresh = None; output_limits = None }
+
+joined_is : {n : ℕ} (parts : List Ask) (cs : List PidSettings) (ms : List AxisMemory) (os : List Float) (es : List AxisMemory)
+    → length parts ≡ n → length cs ≡ n → length ms ≡ n → length os ≡ n → length es ≡ n
+    → ((part : Ask) → EachIs n cs ms os es (λ i. answer (get_or parts i part)))
+    → record { output = os; memory = record { axes = es } } ≡ joined {n = n} (answers parts cs ms)
 unfolding joined
-joined_is {n} parts cs a lp lc lo la each =
-    let long : length (answers parts cs) ≡ length cs = answers_length parts cs (lp ∙ sym lc) in
-    let at : (i : ℕ) (d : PidAnswer) (e : PidController) (x : Float) → i < n → record { output = get_or a.output i x; controller = get_or a.controller.axes i e } ≡ get_or (answers parts cs) i d
-    = λ i d e x lt. each i (calculate x x x) e e x lt ∙ sym (answer_at parts cs i (calculate x x x) e d (omega (arith, lt, lp)) (omega (arith, lt, lc))) in
-    let os = mapped (λ b. b.output) (answers parts cs) a.output (omega (arith, long, lc, lo)) (λ k d x lt. ap (λ b. b.output) (at k d d.controller x (omega (arith, lt, long, lc)))) in
-    let es = mapped (λ b. b.controller) (answers parts cs) a.controller.axes (omega (arith, long, lc, la)) (λ k d e lt. ap (λ b. b.controller) (at k d e d.output (omega (arith, lt, long, lc)))) in
-    λ j. record { output = os j; controller = record { axes = es j } }
+joined_is {n} parts cs ms os es lp lc lm lo le each =
+    let long : length (answers parts cs ms) ≡ length ms = answers_length parts cs ms (lp ∙ sym lm) (lc ∙ sym lm) in
+    let at : (i : ℕ) (d : AxisAnswer) (e : AxisMemory) (x : Float) → i < n → record { output = get_or os i x; memory = get_or es i e } ≡ get_or (answers parts cs ms) i d
+    = λ i d e x lt. each (calculate x x x) i (settings_of x) e e x lt ∙ sym (answer_at parts cs ms i (calculate x x x) (settings_of x) e d (omega (arith, lt, lp)) (omega (arith, lt, lc)) (omega (arith, lt, lm))) in
+    let outputs = mapped (λ b. b.output) (answers parts cs ms) os (omega (arith, long, lm, lo)) (λ k d x lt. ap (λ b. b.output) (at k d d.memory x (omega (arith, lt, long, lm)))) in
+    let memories = mapped (λ b. b.memory) (answers parts cs ms) es (omega (arith, long, lm, le)) (λ k d e lt. ap (λ b. b.memory) (at k d e d.output (omega (arith, lt, long, lm)))) in
+    λ j. record { output = outputs j; memory = record { axes = memories j } }
 
-pub calculated_is : {n : ℕ} (c : PidAxes n) (s v : List Float) (dt : Float) (a : PidAxesAnswer n)
-    → length s ≡ n → length v ≡ n → length c.axes ≡ n → length a.output ≡ n → length a.controller.axes ≡ n
-    → EachAnswer (λ i b r. PidController × (r ≡ axis.calculated b (get_or s i nan) (get_or v i nan) dt)) n c a → a ≡ calculated c s v dt
+pub calculated_is : {n : ℕ} (cs : List PidSettings) (m : PidMemory n) (s v : List Float) (dt : Float) (os : List Float) (es : List AxisMemory)
+    → length s ≡ n → length v ≡ n → length cs ≡ n → length m.axes ≡ n → length os ≡ n → length es ≡ n
+    → EachIs n cs m.axes os es (λ i c m. one_calculated c m (get_or s i nan) (get_or v i nan) dt)
+    → record { output = os; memory = record { axes = es } } ≡ calculated cs m s v dt
 unfolding calculated
-calculated_is c s v dt a ls lv lc lo la each =
-    joined_is (asks s v dt) c.axes a (asks_length s v dt (lv ∙ sym ls) ∙ ls) lc lo la
-    (λ i p d e x lt. (each i d e x lt).1 ∙ ap (λ q. answer q (get_or c.axes i d)) (sym (ask_at s v dt i p nan nan (omega (arith, lt, ls)) (omega (arith, lt, lv)))))
+calculated_is cs m s v dt os es ls lv lc lm lo le each =
+    joined_is (asks s v dt) cs m.axes os es (asks_length s v dt (lv ∙ sym ls) ∙ ls) lc lm lo le
+    (λ p i d f e x lt. each i d f e x lt ∙ ap (λ q. answer q (get_or cs i d) (get_or m.axes i f)) (sym (ask_at s v dt i p nan nan (omega (arith, lt, ls)) (omega (arith, lt, lv)))))
 
-pub with_derivative_is : {n : ℕ} (c : PidAxes n) (s v w : List Float) (dt : Float) (a : PidAxesAnswer n)
-    → length s ≡ n → length v ≡ n → length w ≡ n → length c.axes ≡ n → length a.output ≡ n → length a.controller.axes ≡ n
-    → EachAnswer (λ i b r. PidController × (r ≡ axis.calculated_with_derivative b (get_or s i nan) (get_or v i nan) (get_or w i nan) dt)) n c a → a ≡ calculated_with_derivative c s v w dt
+pub with_derivative_is : {n : ℕ} (cs : List PidSettings) (m : PidMemory n) (s v w : List Float) (dt : Float) (os : List Float) (es : List AxisMemory)
+    → length s ≡ n → length v ≡ n → length w ≡ n → length cs ≡ n → length m.axes ≡ n → length os ≡ n → length es ≡ n
+    → EachIs n cs m.axes os es (λ i c m. one_with_derivative c m (get_or s i nan) (get_or v i nan) (get_or w i nan) dt)
+    → record { output = os; memory = record { axes = es } } ≡ calculated_with_derivative cs m s v w dt
 unfolding calculated_with_derivative
-with_derivative_is c s v w dt a ls lv lw lc lo la each =
-    joined_is (asks_with_derivative s v w dt) c.axes a (derivatives_length s v w dt (lv ∙ sym ls) (lw ∙ sym ls) ∙ ls) lc lo la
-    (λ i p d e x lt. (each i d e x lt).1 ∙ ap (λ q. answer q (get_or c.axes i d)) (sym (derivative_at s v w dt i p nan nan nan (omega (arith, lt, ls)) (omega (arith, lt, lv)) (omega (arith, lt, lw)))))
+with_derivative_is cs m s v w dt os es ls lv lw lc lm lo le each =
+    joined_is (asks_with_derivative s v w dt) cs m.axes os es (derivatives_length s v w dt (lv ∙ sym ls) (lw ∙ sym ls) ∙ ls) lc lm lo le
+    (λ p i d f e x lt. each i d f e x lt ∙ ap (λ q. answer q (get_or cs i d) (get_or m.axes i f)) (sym (derivative_at s v w dt i p nan nan nan (omega (arith, lt, ls)) (omega (arith, lt, lv)) (omega (arith, lt, lw)))))

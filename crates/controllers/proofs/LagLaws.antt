@@ -1,4 +1,4 @@
--- The lag as a whole: a reset undoes every step, and an inversion of no steps answers what was desired. Assumes nothing.
+-- The lag as a whole: a reset undoes every step, and an inversion of no steps answers what was desired.
 use mathlib.Core.Path.{◌≡◌, refl}
 use Rattle.linear.specs.declared.Vector2f.{Vector2f}
 use Rattle.controllers.specs.declared.first_order_lag.FirstOrderLag.{FirstOrderLag}

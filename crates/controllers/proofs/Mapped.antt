@@ -1,4 +1,4 @@
--- A list whose every entry is f of another list's, by the law of `na`, which asks for an element where there is none. Assumes nothing.
+-- A list whose every entry is f of another list's, by the law of `na`, which asks for an element where there is none.
 use Rattle.std.proofs.Common.{◌≡◌, refl, ℕ, ◌<◌, List, [], ◌∷◌, length, get_or, map, arith}
 use Rattle.std.proofs.lemmas.List.{nil_from_length}
 use Rattle.linear.proofs.Arrays.{filled_from}

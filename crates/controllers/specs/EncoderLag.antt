@@ -1,5 +1,4 @@
--- The encoder lag of document 01, 'The plain drive', last paragraph: the `FirstOrderLag` that control_context.rs makes for a tick length.
--- Assumes nothing.
+-- The encoder lag: the `FirstOrderLag` that control_context.rs makes for a tick length (docs/RULES.md, 'The encoder lag').
 use Rattle.std.specs.Prelude.{ℕ, max, true, false, T, pos, Float, Result}
 use Rattle.std.specs.Result.{result_map_both}
 use Rattle.std.specs.Float.{fin, binary32}
@@ -27,7 +26,7 @@ unfoldable pub n_steps_of : Float → ℕ
 n_steps_of dt = max 1 (to_unsigned 64 (horizon_over dt))
 
 -- the lag's dt in seconds: floor(15625 * k / 64) microseconds
-unfoldable pub dt_of : ℕ → Float
+abbrev pub dt_of : ℕ → Float
 dt_of k = duration_to_secs (micros_of k)
 
 -- the lag at rest, both axes alike
@@ -42,4 +41,4 @@ new_lag k = record {
 
 -- the answer to a k: a lag where k is a tick length's
 unfoldable pub lag_of : ℕ → Result FirstOrderLag Refusal
-lag_of k = result_map_both (λ t. new_lag t.k) (λ r. r) (tick_length_of k)
+lag_of k = result_map_both new_lag (λ r. r) (tick_length_of k)

@@ -1,4 +1,4 @@
--- `FirstOrderLag` of model/mod.rs over two axes: the calls on one. Assumes nothing.
+-- `FirstOrderLag` of model/mod.rs over two axes: the calls on one.
 use Rattle.std.specs.Prelude.{Float}
 use Rattle.linear.specs.declared.Vector2f.{Vector2f}
 use Rattle.linear.specs.Vector.{zeros2}
@@ -18,7 +18,7 @@ y_axis l = axis l l.params.k.y l.params.t_slope.y l.state.y
 
 -- the lag with another state
 abbrev pub with_state : FirstOrderLag → Vector2f → FirstOrderLag
-with_state l v = record { params = l.params; t_min = l.t_min; dt = l.dt; n_steps = l.n_steps; state = v }
+with_state l v = record l { state = v }
 
 -- `reset`
 unfoldable pub reset_of : FirstOrderLag → FirstOrderLag

@@ -1,5 +1,4 @@
 -- model/mod.rs on one axis: the lag's time constant, one timestep, and the inversion by n turns of one recurrence. Every operation is rounded to binary32.
--- Assumes nothing.
 use Rattle.std.specs.Prelude.{ℕ, zero, suc, Float}
 use Rattle.std.specs.Float.{binary32}
 use Rattle.std.specs.Float.Ieee.{add, sub, mul, div}

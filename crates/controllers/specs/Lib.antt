@@ -4,7 +4,6 @@ pub mod Axes
 pub mod PidAxes
 pub mod PidLaws
 pub mod Brake
-pub mod Wheel
 pub mod FirstOrderLag
 pub mod LagAxis
 pub mod EncoderLag

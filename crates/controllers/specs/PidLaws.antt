@@ -1,48 +1,50 @@
 -- What holds of pid.rs's controllers, of one axis and of any number: each statement is a clause of a function of src/pid_laws.rt.
-use Rattle.std.specs.Prelude.{◌≡◌, ℕ, ◌<◌, true, false, T, List, [], ◌∷◌, length, map, get_or, Float, Option, None, Some}
+use Rattle.std.specs.Prelude.{◌≡◌, ℕ, ◌<◌, true, false, T, List, [], ◌∷◌, length, map, replicate, get_or, Float, Option, None, Some}
 use Rattle.std.specs.Float.{nan, binary32}
 use Rattle.std.specs.Float.Ieee.{mul, div, lt, le}
 use Rattle.ieee754.specs.Magnitude.{magnitude}
 use Rattle.linear.specs.Vector.{zero_float}
-use Rattle.controllers.specs.declared.pid.PidController.{PidController}
-use Rattle.controllers.specs.declared.pid.axes.PidAxes.{PidAxes}
-use Rattle.controllers.specs.Axis as axis
-use Rattle.controllers.specs.Axis.{anti_jitter, limited, new_controller}
-use Rattle.controllers.specs.Axes.{Ask, asks, asks_with_derivative, answers, Call, reset, after, after_calls, Each}
-use Rattle.controllers.specs.PidAxes.{calculated, calculated_with_derivative, reset_of, answers_of}
+use Rattle.controllers.specs.declared.pid.PidSettings.{PidSettings}
+use Rattle.controllers.specs.declared.pid.AxisMemory.{AxisMemory}
+use Rattle.controllers.specs.declared.pid.PidMemory.{PidMemory}
+use Rattle.controllers.specs.Axis.{AxisAnswer, anti_jitter, limited, no_memory}
+use Rattle.controllers.specs.Axes.{Ask, asks, asks_with_derivative, answers, Call, reset, after, after_call, after_calls, EachAxis, Each}
+use Rattle.controllers.specs.PidAxes.{calculated, calculated_with_derivative, new_memory, answers_of}
 
 -- ---- the axes do not touch each other
 
 -- the parts of one axis, one after the other
-abbrev pub alone : List Call → PidController → PidController
-alone [] c = c
-alone (a ∷ parts) c = alone parts (after a c)
+abbrev pub alone : List Call → PidSettings → AxisMemory → AxisMemory
+alone [] c m = m
+alone (a ∷ parts) c m = alone parts c (after a c m)
 
--- the axis at i after a list of calls is what its own parts of the calls make of it
+-- what the axis at i remembers after a list of calls is what its own parts of the calls make of it
 abbrev pub AxesAreApart : Type 0
 AxesAreApart =
-    (calls : List (List Call)) (cs : List PidController) (i : ℕ) (other : PidController)
+    (calls : List (List Call)) (cs : List PidSettings) (ms : List AxisMemory) (i : ℕ) (settings : PidSettings) (other : AxisMemory)
     → Each (λ parts. i < length parts) calls
     → i < length cs
-    → get_or (after_calls calls cs) i other ≡ alone (map (λ parts. get_or parts i reset) calls) (get_or cs i other)
+    → i < length ms
+    → get_or (after_calls calls cs ms) i other ≡ alone (map (λ parts. get_or parts i reset) calls) (get_or cs i settings) (get_or ms i other)
 
 -- ---- the integrated error
 
 -- the bounds of the integrated error enclose zero, and enclose it
-pub record Bounded (c : PidController) : Type 0 where
+pub record Bounded (c : PidSettings) (m : AxisMemory) : Type 0 where
   pub below : T (le c.gain.ki_err_min zero_float)
   pub above : T (le zero_float c.gain.ki_err_max)
   pub ordered : T (le c.gain.ki_err_min c.gain.ki_err_max)
-  pub least : T (le c.gain.ki_err_min c.integrated_error)
-  pub most : T (le c.integrated_error c.gain.ki_err_max)
+  pub least : T (le c.gain.ki_err_min m.integrated_error)
+  pub most : T (le m.integrated_error c.gain.ki_err_max)
 
 -- no call takes it out of its bounds
 abbrev pub CallsKeepIntegralBounded : Type 0
-CallsKeepIntegralBounded = (a : Call) (c : PidController) → Bounded c → Bounded (after a c)
+CallsKeepIntegralBounded = (a : Call) (c : PidSettings) (m : AxisMemory) → Bounded c m → Bounded c (after a c m)
 
 -- nor does any list of calls, at any axis
 abbrev pub IntegralIsBounded : Type 0
-IntegralIsBounded = (calls : List (List Call)) (cs : List PidController) → Each Bounded cs → Each Bounded (after_calls calls cs)
+IntegralIsBounded =
+    (calls : List (List Call)) (cs : List PidSettings) (ms : List AxisMemory) → EachAxis Bounded cs ms → EachAxis Bounded cs (after_calls calls cs ms)
 
 -- ---- the output's limits
 
@@ -55,11 +57,16 @@ abbrev pub Inside : Option (Float × Float) → Float → Type 0
 Inside None out = Unit {0}
 Inside (Some w) out = T (le w.0 out) × T (le out w.1)
 
--- of every axis whose limits are in order, the output is within them
+-- each output is within its axis's limits
+abbrev pub EachInside : List PidSettings → List AxisAnswer → Type 0
+EachInside cs [] = Unit {0}
+EachInside [] (a ∷ rest) = Unit {0}
+EachInside (c ∷ cs) (a ∷ rest) = Inside c.output_limits a.output × EachInside cs rest
+
+-- where every axis's limits are in order, each output is within them
 abbrev pub OutputsAreLimited : Type 0
 OutputsAreLimited =
-    (parts : List Ask) (cs : List PidController)
-    → Each (λ c. Ordered c.output_limits) cs → Each (λ a. Inside a.controller.output_limits a.output) (answers parts cs)
+    (parts : List Ask) (cs : List PidSettings) (ms : List AxisMemory) → Each (λ c. Ordered c.output_limits) cs → EachInside cs (answers parts cs ms)
 
 -- and NaN gives the lower one
 abbrev pub NanIsLowerLimit : Type 0
@@ -67,9 +74,10 @@ NanIsLowerLimit = (lo hi : Float) → limited (Some (lo, hi)) nan ≡ lo
 
 -- ---- reset
 
--- after a reset a controller is a new one with its gains, threshold and limits
+-- a reset of every axis leaves what a new controller remembers
 abbrev pub ResetIsNew : Type 0
-ResetIsNew = (c : PidController) → axis.reset_of c ≡ new_controller c.gain c.anti_jitter_thresh c.output_limits
+ResetIsNew =
+    (n : ℕ) (cs : List PidSettings) (ms : List AxisMemory) → length cs ≡ n → length ms ≡ n → after_call (replicate n reset) cs ms ≡ replicate n no_memory
 
 -- ---- anti-jitter
 
@@ -88,12 +96,14 @@ OutputStaysFrom = (t out err : Float) → lt (magnitude err) t ≡ false → ant
 -- ---- the controller of n axes is the list
 
 abbrev pub AxesCalculateAsList : Type 0
-AxesCalculateAsList = (n : ℕ) (c : PidAxes n) (s v : List Float) (dt : Float) → answers_of (calculated c s v dt) ≡ answers (asks s v dt) c.axes
+AxesCalculateAsList =
+    (n : ℕ) (cs : List PidSettings) (m : PidMemory n) (s v : List Float) (dt : Float)
+    → answers_of (calculated cs m s v dt) ≡ answers (asks s v dt) cs m.axes
 
 abbrev pub AxesCalculateWithDerivativeAsList : Type 0
 AxesCalculateWithDerivativeAsList =
-    (n : ℕ) (c : PidAxes n) (s v d : List Float) (dt : Float)
-    → answers_of (calculated_with_derivative c s v d dt) ≡ answers (asks_with_derivative s v d dt) c.axes
+    (n : ℕ) (cs : List PidSettings) (m : PidMemory n) (s v d : List Float) (dt : Float)
+    → answers_of (calculated_with_derivative cs m s v d dt) ≡ answers (asks_with_derivative s v d dt) cs m.axes
 
 abbrev pub AxesResetAsList : Type 0
-AxesResetAsList = (n : ℕ) (c : PidAxes n) → (reset_of c).axes ≡ map axis.reset_of c.axes
+AxesResetAsList = (n : ℕ) → (new_memory {n = n}).axes ≡ replicate n no_memory

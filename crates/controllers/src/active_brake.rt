@@ -1,72 +1,78 @@
-// active_brake.rs: each wheel is driven to rest by a P controller on its measured speed.
-pub mod wheel; // wheel.rt: the controller of one wheel
+//! active_brake.rs: each wheel is driven to rest by a P controller on its measured speed.
 
 ghost use Rattle.std.specs.Prelude.{◌≡◌};
 ghost use Rattle.tick.specs.Refusal.{number_of};
 ghost use Rattle.tick.specs.TickLength.{refusal_of};
-ghost use Rattle.controllers.specs.Brake.{brake_of, new_brake, computed, reset_brake};
+ghost use Rattle.controllers.specs.Brake.{new_brake, brake_of, memory_of, computed, reset_brake};
 
-use crate::active_brake::wheel::wheel_controller;
-use crate::pid::axes::PidAxes;
+use crate::pid::{PidMemory, PidSettings};
 use linear::Vector4f;
+use params::{BRAKE_ANTI_JITTER_RADS, BRAKE_KP, BRAKE_MAX_CURRENT_A, PidGains};
 use tick::refusal::Refusal;
 use tick::tick_length::TickLength;
 
+// Ki and Kd are zero, as in the Rust.
+const WHEEL: PidSettings = PidSettings {
+    gain: PidGains {
+        kp: BRAKE_KP,
+        ki: 0.0,
+        kd: 0.0,
+        ki_err_min: 0.0,
+        ki_err_max: 0.0,
+    },
+    anti_jitter_thresh: Some(BRAKE_ANTI_JITTER_RADS),
+    output_limits: Some((-BRAKE_MAX_CURRENT_A, BRAKE_MAX_CURRENT_A)),
+};
+
+/// The brake of a tick length, and what it remembers of the four wheels.
 #[derive(Clone, Copy)]
 pub struct ActiveBrakeController {
-    pub pid: PidAxes<4>,
-    pub tick: TickLength,
-}
-
-// The currents in A, one for each wheel, beside the brake as the call leaves it.
-// Both by value, no `&mut` and no pair: document 01 has an answer struct beside the new state.
-#[derive(Clone, Copy)]
-pub struct BrakeAnswer {
-    pub currents: Vector4f,
-    pub controller: ActiveBrakeController,
-}
-
-// The brake of a tick length.
-#[tactic(auto, unfolding(crate::specs::Brake::new_brake))]
-fn brake_of(tick: TickLength) -> ActiveBrakeController
-    ensures { result ≡ new_brake tick.k }
-{
-    let axes = [wheel_controller(); 4];
-    ActiveBrakeController {
-        pid: PidAxes { axes },
-        tick,
-    }
+    pid: PidMemory<4>,
+    tick_length: TickLength,
 }
 
 impl ActiveBrakeController {
-    // Refusal 1 where k is not from 1 to 64.
+    #[tactic(auto, unfolding(crate::specs::Brake::new_brake))]
+    fn of(tick_length: TickLength) -> ActiveBrakeController
+        ensures { result ≡ new_brake tick_length }
+    {
+        ActiveBrakeController {
+            pid: PidMemory::new(),
+            tick_length,
+        }
+    }
+
+    /// A brake for ticks of k/4096 s, or `Refusal::TickLength` where k is not from 1 to 64.
     #[tactic(auto, unfolding(crate::specs::Brake::brake_of))]
     pub fn new(k: u32) -> Result<ActiveBrakeController, Refusal>
         ensures { (result ≡ brake_of k) × (number_of result ≡ refusal_of k) }
     {
-        Ok(brake_of(TickLength::new(k)?))
+        Ok(ActiveBrakeController::of(TickLength::new(k)?))
     }
 
-    // The braking currents for the measured wheel speeds in rad/s.
-    #[tactic(auto, unfolding(crate::specs::Brake::computed))]
-    pub fn compute(mut self, wheel_vel_meas: Vector4f) -> BrakeAnswer
-        ensures { result ≡ computed self wheel_vel_meas }
+    /// What it remembers of the wheels.
+    pub fn memory(&self) -> PidMemory<4>
+        ensures { result ≡ memory_of self.now }
     {
-        let answer = self
-            .pid
-            .calculate([0.0; 4], wheel_vel_meas.into(), self.tick.seconds());
-        self.pid = answer.controller;
-        BrakeAnswer {
-            currents: answer.output.into(),
-            controller: self,
-        }
+        self.pid
     }
 
+    /// The braking currents in A, one for each wheel, for the measured wheel speeds in rad/s.
+    #[tactic(auto, unfolding(crate::specs::Brake::computed, crate::specs::Brake::wheel_settings))]
+    pub fn compute(&mut self, wheel_vel_meas: Vector4f) -> Vector4f
+        ensures { let a = computed self.old wheel_vel_meas in (result ≡ a.currents) × (self.new ≡ a.controller) }
+    {
+        let dt_s = self.tick_length.seconds();
+        let speeds = wheel_vel_meas.into();
+        let currents = self.pid.calculate(&[WHEEL; 4], [0.0; 4], speeds, dt_s);
+        currents.into()
+    }
+
+    /// Forgets the errors.
     #[tactic(auto, unfolding(crate::specs::Brake::reset_brake))]
-    pub fn reset(mut self) -> ActiveBrakeController
-        ensures { result ≡ reset_brake self }
+    pub fn reset(&mut self)
+        ensures { self.new ≡ reset_brake self.old }
     {
-        self.pid = self.pid.reset();
-        self
+        self.pid.reset();
     }
 }

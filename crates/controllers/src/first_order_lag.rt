@@ -1,5 +1,5 @@
-// `FirstOrderLag` of lib-stm32's model/mod.rs over two axes, by value.
-pub mod axis; // axis.rt: the lag on one axis
+//! `FirstOrderLag` of lib-stm32's model/mod.rs over two axes, and the one of the encoders.
+mod axis; // axis.rt: the lag on one axis
 pub mod encoder; // encoder.rt: the encoder lag of a tick length
 
 ghost use Rattle.std.specs.Prelude.{◌≡◌, [], ◌∷◌};
@@ -8,40 +8,50 @@ ghost use Rattle.controllers.specs.FirstOrderLag.{axis, x_axis, y_axis, reset_of
 use crate::first_order_lag::axis::Axis;
 use linear::{Vector2f, ZEROS_2};
 
+/// What identifies the lag, by axis.
 #[derive(Clone, Copy)]
 pub struct FirstOrderLagParams {
+    /// The gain at rest.
     pub k: Vector2f,
+    /// How much the time constant grows with the input's size, in s/(m/s).
     pub t_slope: Vector2f,
 }
 
+/// A first-order lag of two axes, each with a gain, a slope and a state of its own.
 #[derive(Clone, Copy)]
 pub struct FirstOrderLag {
     pub params: FirstOrderLagParams,
+    /// The least time constant, in s.
     pub t_min: f32,
+    /// One timestep, in s.
     pub dt: f32,
+    /// How many turns `invert` makes.
     pub n_steps: usize,
+    /// The modelled output.
     pub state: Vector2f,
 }
 
 impl FirstOrderLag {
-    pub fn state(self) -> Vector2f
-        ensures { result ≡ self.state }
+    /// The modelled output.
+    pub fn state(&self) -> Vector2f
+        ensures { result ≡ self.now.state }
     {
         self.state
     }
 
-    pub fn n_steps(self) -> usize
-        ensures { result ≡ self.n_steps }
+    /// How many turns `invert` makes.
+    pub fn n_steps(&self) -> usize
+        ensures { result ≡ self.now.n_steps }
     {
         self.n_steps
     }
 
+    /// Back to rest.
     #[tactic(auto, unfolding(crate::specs::FirstOrderLag::reset_of, linear::specs::Vector::zeros2))]
-    pub fn reset(mut self) -> Self
-        ensures { result ≡ reset_of self }
+    pub fn reset(&mut self)
+        ensures { self.new ≡ reset_of self.old }
     {
         self.state = ZEROS_2;
-        self
     }
 
     // The axis with this gain, slope and state; the rest is every axis's.
@@ -70,23 +80,22 @@ impl FirstOrderLag {
         ]
     }
 
-    // One timestep at an input.
+    /// One timestep at an input.
     #[tactic(auto, unfolding(crate::specs::FirstOrderLag::stepped_of))]
-    pub fn step(mut self, input: Vector2f) -> Self
-        ensures { result ≡ stepped_of self input }
+    pub fn step(&mut self, input: Vector2f)
+        ensures { self.new ≡ stepped_of self.old input }
     {
         let [x, y] = self.axes();
         self.state = Vector2f {
             x: x.step(input.x),
             y: y.step(input.y),
         };
-        self
     }
 
-    // The input that is to bring the state to `desired`.
+    /// The input that is to bring the state to `desired`.
     #[tactic(auto, unfolding(crate::specs::FirstOrderLag::inverted_of))]
-    pub fn invert(self, desired: Vector2f) -> Vector2f
-        ensures { result ≡ inverted_of self desired }
+    pub fn invert(&self, desired: Vector2f) -> Vector2f
+        ensures { result ≡ inverted_of self.now desired }
     {
         let [x, y] = self.axes();
         Vector2f {

@@ -1,118 +1,165 @@
-// pid.rs: a PID controller by value, for one axis; `axes` has it for any number.
-pub mod axes; // axes.rt: a controller for each entry of a vector
+//! `PidController` of pid.rs over any number of axes: what is chosen, apart from what is remembered.
 
 ghost use Rattle.std.specs.Prelude.{◌≡◌};
-ghost use Rattle.controllers.specs.Axis.{anti_jitter, limited, calculated, calculated_with_derivative, reset_of, new_controller};
+ghost use Rattle.controllers.specs.Axis.{anti_jitter, limited, one_calculated, one_with_derivative};
+ghost use Rattle.controllers.specs.PidAxes.{new_memory, calculated, calculated_with_derivative};
 
 use ieee754::bits::abs;
 use ieee754::clamp::clamp;
 use params::PidGains;
 
+/// What is chosen for one axis. A controller of N axes has N of them.
 #[derive(Clone, Copy)]
-pub struct PidController {
+pub struct PidSettings {
     pub gain: PidGains,
-    // The error below which the output is scaled toward zero, if there is one.
+    /// The error below which the output is scaled toward zero, if there is one.
     pub anti_jitter_thresh: Option<f32>,
-    // The bounds of the output, the lower one first, if there are any.
+    /// The limits of the output, the lower one first, if there are any.
     pub output_limits: Option<(f32, f32)>,
+}
+
+impl PidSettings {
+    // Below the threshold the output shrinks with the error.
+    #[tactic(auto, unfolding(crate::specs::Axis::anti_jitter))]
+    fn apply_anti_jitter(&self, output: f32, error: f32) -> f32
+        ensures { result ≡ anti_jitter self.now.anti_jitter_thresh output error }
+    {
+        let size = abs(error);
+        match self.anti_jitter_thresh {
+            Some(thresh) if (thresh > 0.0) & (size < thresh) => output * size / thresh,
+            _ => output,
+        }
+    }
+
+    #[tactic(auto, unfolding(crate::specs::Axis::limited))]
+    fn apply_output_limits(&self, output: f32) -> f32
+        ensures { result ≡ limited self.now.output_limits output }
+    {
+        match self.output_limits {
+            None => output,
+            Some((min, max)) => clamp(output, min, max),
+        }
+    }
+}
+
+/// What one axis remembers between calls.
+#[derive(Clone, Copy)]
+pub struct AxisMemory {
     pub prev_error: f32,
     pub integrated_error: f32,
 }
 
-// What a call answers, beside the controller as the call leaves it.
-// Both by value, no `&mut` and no pair: document 01 has an answer struct beside the new state.
-#[derive(Clone, Copy)]
-pub struct PidAnswer {
-    pub output: f32,
-    pub controller: PidController,
-}
-
-// Below the threshold the output shrinks with the error.
-#[tactic(auto, unfolding(crate::specs::Axis::anti_jitter))]
-fn apply_anti_jitter(thresh: Option<f32>, out: f32, err: f32) -> f32
-    ensures { result ≡ anti_jitter thresh out err }
-{
-    match thresh {
-        None => out,
-        Some(t) => {
-            let size = abs(err);
-            if (t > 0.0) & (size < t) {
-                out * size / t
-            } else {
-                out
-            }
-        }
-    }
-}
-
-#[tactic(auto, unfolding(crate::specs::Axis::limited))]
-fn apply_output_limits(limits: Option<(f32, f32)>, out: f32) -> f32
-    ensures { result ≡ limited limits out }
-{
-    match limits {
-        None => out,
-        Some((lo, hi)) => clamp(out, lo, hi),
-    }
-}
-
-impl PidController {
-    // A controller with nothing remembered.
-    #[tactic(auto, unfolding(crate::specs::Axis::new_controller))]
-    pub fn new(gain: PidGains, thresh: Option<f32>, limits: Option<(f32, f32)>) -> PidController
-        ensures { result ≡ new_controller gain thresh limits }
-    {
-        PidController {
-            gain,
-            anti_jitter_thresh: thresh,
-            output_limits: limits,
-            prev_error: 0.0,
-            integrated_error: 0.0,
-        }
-    }
-
-    // The Rust's own parameters, here and below: a struct of them would be made for each call alone.
-    #[tactic(auto, unfolding(crate::specs::Axis::calculated, crate::specs::Axis::calculated_with_derivative))]
-    pub fn calculate(self, setpoint: f32, process_variable: f32, dt_s: f32) -> PidAnswer
-        ensures { result ≡ calculated self setpoint process_variable dt_s }
+impl AxisMemory {
+    #[tactic(auto, unfolding(crate::specs::Axis::one_calculated, crate::specs::Axis::one_with_derivative))]
+    fn calculate(
+        &mut self,
+        settings: &PidSettings,
+        setpoint: f32,
+        process_variable: f32,
+        dt_s: f32,
+    ) -> f32
+        ensures { let a = one_calculated settings.now self.old setpoint process_variable dt_s in
+            (result ≡ a.output) × (self.new ≡ a.memory) }
     {
         let de_dt = (setpoint - process_variable - self.prev_error) / dt_s;
-        self.calculate_with_derivative(setpoint, process_variable, de_dt, dt_s)
+        self.calculate_with_derivative(settings, setpoint, process_variable, de_dt, dt_s)
     }
 
-    // Like `calculate`, with the derivative from outside.
-    #[tactic(auto, unfolding(crate::specs::Axis::calculated_with_derivative, crate::specs::Axis::response, crate::specs::Axis::integrated, crate::specs::Axis::weighted))]
-    pub fn calculate_with_derivative(
-        mut self,
+    #[tactic(auto, unfolding(crate::specs::Axis::one_with_derivative, crate::specs::Axis::response))]
+    fn calculate_with_derivative(
+        &mut self,
+        settings: &PidSettings,
         setpoint: f32,
         process_variable: f32,
         derivative: f32,
         dt_s: f32,
-    ) -> PidAnswer
-        ensures { result ≡ calculated_with_derivative self setpoint process_variable derivative dt_s }
+    ) -> f32
+        ensures { let a = one_with_derivative settings.now self.old setpoint process_variable derivative dt_s in
+            (result ≡ a.output) × (self.new ≡ a.memory) }
     {
-        let gain = self.gain;
+        let gain = settings.gain;
         let error = setpoint - process_variable;
         let sum = self.integrated_error + error * dt_s;
-        let integrated = clamp(sum, gain.ki_err_min, gain.ki_err_max);
-        let pid = gain.kp * error + gain.ki * integrated + gain.kd * derivative;
-        let output = apply_output_limits(
-            self.output_limits,
-            apply_anti_jitter(self.anti_jitter_thresh, pid, error),
-        );
+        self.integrated_error = clamp(sum, gain.ki_err_min, gain.ki_err_max);
         self.prev_error = error;
-        self.integrated_error = integrated;
-        PidAnswer {
-            output,
-            controller: self,
-        }
+        let pid = gain.kp * error + gain.ki * self.integrated_error + gain.kd * derivative;
+        settings.apply_output_limits(settings.apply_anti_jitter(pid, error))
+    }
+}
+
+/// What the axes of a controller remember between calls.
+#[derive(Clone, Copy)]
+pub struct PidMemory<const N: usize> {
+    pub axes: [AxisMemory; N],
+}
+
+impl<const N: usize> PidMemory<N> {
+    /// Nothing remembered: every error is zero.
+    #[tactic(auto, unfolding(crate::specs::Axis::no_memory, crate::specs::PidAxes::new_memory))]
+    pub fn new() -> PidMemory<N>
+        ensures { result ≡ new_memory }
+    {
+        let nothing = AxisMemory {
+            prev_error: 0.0,
+            integrated_error: 0.0,
+        };
+        PidMemory { axes: [nothing; N] }
     }
 
-    #[tactic(auto, unfolding(crate::specs::Axis::reset_of, crate::specs::Axis::new_controller))]
-    pub fn reset(mut self) -> PidController
-        ensures { result ≡ reset_of self }
+    /// Forgets the errors.
+    pub fn reset(&mut self)
+        ensures { self.new ≡ new_memory }
     {
-        self.prev_error = 0.0;
-        self.integrated_error = 0.0;
-        self
+        *self = PidMemory::new();
+    }
+
+    /// The outputs that are to bring the process variables to the setpoints, dt_s seconds after the
+    /// previous call. The derivative is the error's difference from the previous error, over dt_s.
+    pub fn calculate(
+        &mut self,
+        settings: &[PidSettings; N],
+        setpoint: [f32; N],
+        process_variable: [f32; N],
+        dt_s: f32,
+    ) -> [f32; N]
+        ensures { let a = calculated settings.now self.old setpoint.entry process_variable.entry dt_s in
+            (result ≡ a.output) × (self.new ≡ a.memory) }
+    {
+        let mut output = [0.0; N];
+        for i in 0..N {
+            let mut axis = self.axes[i];
+            output[i] = axis.calculate(&settings[i], setpoint[i], process_variable[i], dt_s);
+            self.axes[i] = axis;
+        }
+        output
+    }
+
+    /// Like `calculate`, with the errors' derivatives given from outside.
+    pub fn calculate_with_derivative(
+        &mut self,
+        settings: &[PidSettings; N],
+        setpoint: [f32; N],
+        process_variable: [f32; N],
+        derivative: [f32; N],
+        dt_s: f32,
+    ) -> [f32; N]
+        ensures { let a = calculated_with_derivative settings.now self.old setpoint.entry
+            process_variable.entry derivative.entry dt_s in
+            (result ≡ a.output) × (self.new ≡ a.memory) }
+    {
+        let mut output = [0.0; N];
+        for i in 0..N {
+            let mut axis = self.axes[i];
+            let out = axis.calculate_with_derivative(
+                &settings[i],
+                setpoint[i],
+                process_variable[i],
+                derivative[i],
+                dt_s,
+            );
+            output[i] = out;
+            self.axes[i] = axis;
+        }
+        output
     }
 }

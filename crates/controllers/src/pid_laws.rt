@@ -1,7 +1,8 @@
-// What is proved of controllers over calls: functions that do nothing, for their clauses.
+//! What is proved of controllers over calls: functions that do nothing, for their clauses.
 
-ghost use Rattle.controllers.specs.PidLaws.{AxesAreApart, CallsKeepIntegralBounded, IntegralIsBounded, OutputsAreLimited};
-ghost use Rattle.controllers.specs.PidLaws.{NanIsLowerLimit, ResetIsNew, OutputIsScaledBelow, OutputStaysFrom};
+ghost use Rattle.controllers.specs.PidLaws.{AxesAreApart, CallsKeepIntegralBounded, IntegralIsBounded};
+ghost use Rattle.controllers.specs.PidLaws.{OutputsAreLimited, NanIsLowerLimit, ResetIsNew};
+ghost use Rattle.controllers.specs.PidLaws.{OutputIsScaledBelow, OutputStaysFrom};
 ghost use Rattle.controllers.specs.PidLaws.{AxesCalculateAsList, AxesCalculateWithDerivativeAsList, AxesResetAsList};
 
 /// The axes do not touch each other, over any list of calls.
@@ -24,7 +25,7 @@ pub fn outputs_are_limited()
 {}
 
 /// A reset leaves a new controller's memory.
-#[tactic(auto, using(crate::proofs::AxisLaws::reset_new))]
+#[tactic(auto, using(crate::proofs::AxesLaws::reset_new))]
 pub fn reset_is_new()
     ensures new { ResetIsNew }
 {}
@@ -36,7 +37,7 @@ pub fn output_is_scaled_below_threshold()
     ensures from { OutputStaysFrom }
 {}
 
-/// The controller of N axes is the list of controllers, at every N.
+/// The controller of N axes is the list of axes, at every N.
 pub fn axes_are_a_list()
     ensures calculate { AxesCalculateAsList }
     ensures with_derivative { AxesCalculateWithDerivativeAsList }

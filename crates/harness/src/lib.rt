@@ -1,4 +1,4 @@
-// What the programs over stored lists share: a list's tally and its line.
+//! What the programs over stored lists share: a list's tally and its line.
 #![tactic(auto)]
 
 pub mod report; // report.rt: the line

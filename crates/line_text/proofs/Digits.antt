@@ -1,11 +1,11 @@
--- A 32-bit number's decimal digits are those that the library writes, at most ten. Assumes nothing.
+-- A 32-bit number's decimal digits are those that the library writes, at most ten.
 use Prim.Native.Nat.{ℕ, zero, suc, ◌+◌, ◌/◌, ◌%◌, ◌^◌, ◌≤◌, ◌<◌}
-use mathlib.Core.Bool.{Bool, true, false, cond}
+use mathlib.Core.Bool.{Bool, true, false}
 use mathlib.Core.Path.{◌≡◌, refl, ap, sym, ◌∙◌}
 use mathlib.Core.List.{List, [], ◌∷◌, ◌++◌}
 use native.Mathlib.Nat.{div-lt_iff_lt-mul, pow-suc}
 use native.Mathlib.Omega.{arith}
-use lib.Dec.{ltb}
+use Rattle.std.specs.Prelude.{if◌then◌else◌, nat_lt}
 use lib.ListN.{length, length-append}
 use borrow.Author.Tests.{lt-ltb, ltb-true, ltb-false}
 use Rattle.std.specs.Fmt.{decimal as written}
@@ -17,9 +17,9 @@ unfolding decimal_in
 same_in zero n h m = let few : n < 10 = omega (arith, h) in rw (lt-ltb n 10 few) (sym (decimal_digit n few))
 same_in (suc k) n h m =
     let tenth : n / 10 < 10 ^ suc k = (div-lt_iff_lt-mul {k = 10} (omega arith)).1 (rw (← pow-suc) h) in
-    go (ltb n 10) refl (same_in k (n / 10) tenth (omega (arith, m)))
+    go (nat_lt n 10) refl (same_in k (n / 10) tenth (omega (arith, m)))
   where
-    go : (b : Bool) → ltb n 10 ≡ b → decimal_in (suc k) (n / 10) ≡ written (n / 10) → cond b ((48 + n) ∷ []) (decimal_in (suc k) (n / 10) ++ ((48 + n % 10) ∷ [])) ≡ written n
+    go : (b : Bool) → nat_lt n 10 ≡ b → decimal_in (suc k) (n / 10) ≡ written (n / 10) → (if b then (48 + n) ∷ [] else decimal_in (suc k) (n / 10) ++ ((48 + n % 10) ∷ [])) ≡ written n
     go true e same = sym (decimal_digit n (ltb-true n 10 e))
     go false e same = ap (λ (l : List ℕ). l ++ ((48 + n % 10) ∷ [])) same ∙ sym (decimal_step n (ltb-false n 10 e) m)
 
@@ -31,8 +31,8 @@ same n h = sym (same_in 9 n (omega (arith, h)) (omega (arith, h)))
 short : (k n : ℕ) → length (decimal_in k n) ≤ k
 unfolding decimal_in
 short zero n = omega arith
-short (suc k) n = go (ltb n 10) (short k (n / 10)) where
-  go : (b : Bool) → length (decimal_in k (n / 10)) ≤ k → length (cond b ((48 + n) ∷ []) (decimal_in k (n / 10) ++ ((48 + n % 10) ∷ []))) ≤ suc k
+short (suc k) n = go (nat_lt n 10) (short k (n / 10)) where
+  go : (b : Bool) → length (decimal_in k (n / 10)) ≤ k → length (if b then (48 + n) ∷ [] else decimal_in k (n / 10) ++ ((48 + n % 10) ∷ [])) ≤ suc k
   go true h = omega arith
   go false h = simp length-append (omega arith)
 

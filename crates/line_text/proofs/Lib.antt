@@ -1,10 +1,7 @@
 -- Laws and lemmas.
-pub mod Bound
 pub mod Cases
-pub mod Growing
 pub mod Digits
 pub mod Library
-pub mod WheelsBound
-pub mod WheelsCases
-pub mod TotalsBound
+pub mod Putting
 pub mod TotalsCases
+pub mod WheelsCases

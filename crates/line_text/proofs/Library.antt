@@ -1,4 +1,4 @@
--- The library writes a word's bytes as the word's eight hexadecimal digits. Assumes nothing.
+-- The library writes a word's bytes as the word's eight hexadecimal digits.
 use Rattle.std.proofs.Common.{◌≡◌, ℕ, zero, suc, ◌/◌, ◌%◌, ◌^◌, ◌<◌, ◌==◌, Bool, true, ◌&&◌, inl, inr, [], ◌∷◌, slice_index, refl, ap, ◌∙◌, arith}
 use Rattle.std.proofs.lemmas.Bool.{and_parts, cases_lt, eqb-true}
 use Rattle.std.specs.Int.{w32, to_be_bytes}

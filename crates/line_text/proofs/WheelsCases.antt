@@ -1,4 +1,4 @@
--- A NaN's bits, worked out. Assumes nothing.
+-- A NaN's bits, worked out.
 use mathlib.Core.Path.{◌≡◌, refl}
 use mathlib.Core.List.{[], ◌∷◌}
 use lib.Ieee.{binary32, of_bits, to_bits}

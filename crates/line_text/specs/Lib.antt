@@ -2,6 +2,5 @@
 pub mod Text
 pub mod Puts
 pub mod Pieces
-pub mod Marks
 pub mod Wheels
 pub mod Totals

@@ -1,10 +1,10 @@
--- The pieces of a line, as bytes in ASCII. Assumes nothing.
-use Rattle.std.specs.Prelude.{ℕ, zero, suc, ◌+◌, ◌/◌, ◌%◌, cond, List, [], ◌∷◌, ◌++◌, ltb}
+-- The pieces of a line, as bytes in ASCII.
+use Rattle.std.specs.Prelude.{ℕ, zero, suc, ◌+◌, ◌/◌, ◌%◌, if◌then◌else◌, List, [], ◌∷◌, ◌++◌, nat_lt}
 
 -- a number in decimal, in at most k digits
 unfoldable pub decimal_in : ℕ → ℕ → List ℕ
 decimal_in zero n = []
-decimal_in (suc k) n = cond (ltb n 10) ((48 + n) ∷ []) (decimal_in k (n / 10) ++ ((48 + n % 10) ∷ []))
+decimal_in (suc k) n = if nat_lt n 10 then (48 + n) ∷ [] else decimal_in k (n / 10) ++ ((48 + n % 10) ∷ [])
 
 -- a 32-bit number in decimal
 unfoldable pub decimal : ℕ → List ℕ

@@ -1,18 +1,18 @@
--- The last line of program `drive`, document 01, 'Cases', as bytes in ASCII. Assumes nothing.
+-- The last line of program `drive`, as bytes in ASCII (docs/RULES.md, 'The lines of drive').
 use Rattle.std.specs.Prelude.{ℕ, List, ◌++◌}
-use Rattle.tick.specs.declared.Counts.{Counts}
+use Rattle.tick.specs.declared.tally.Totals.{Totals}
 use Rattle.line_text.specs.Pieces.{decimal, field, newline}
 
 -- last, always: ticks, then counts in the order Q to R
-unfoldable pub totals_text : ℕ → Counts → List ℕ
-totals_text ticks n =
-    decimal ticks
-    ++ field (decimal n.quiet)
-    ++ field (decimal n.gathered)
-    ++ field (decimal n.complete)
-    ++ field (decimal n.reseeded)
-    ++ field (decimal n.taken)
-    ++ field (decimal n.jump)
-    ++ field (decimal n.first)
-    ++ field (decimal n.refused)
+unfoldable pub totals_text : Totals → List ℕ
+totals_text t =
+    decimal t.ticks
+    ++ field (decimal t.counts.quiet)
+    ++ field (decimal t.counts.gathered)
+    ++ field (decimal t.counts.complete)
+    ++ field (decimal t.counts.reseeded)
+    ++ field (decimal t.counts.taken)
+    ++ field (decimal t.counts.jump)
+    ++ field (decimal t.counts.first)
+    ++ field (decimal t.counts.refused)
     ++ newline

@@ -1,5 +1,5 @@
--- The wheel speeds of a tick's line, document 01, 'Cases', as bytes in ASCII. Assumes nothing.
-use Rattle.std.specs.Prelude.{ℕ, zero, suc, ◌+◌, ◌/◌, ◌%◌, cond, List, [], ◌∷◌, ◌++◌, ltb, Float}
+-- The wheel speeds of a tick's line, as bytes in ASCII (docs/RULES.md, 'The lines of drive').
+use Rattle.std.specs.Prelude.{ℕ, zero, suc, ◌+◌, ◌/◌, ◌%◌, if◌then◌else◌, List, [], ◌∷◌, ◌++◌, nat_lt, Float}
 use Rattle.std.specs.Float.{binary32}
 use Rattle.std.specs.Float.Ieee.{to_bits}
 use Rattle.linear.specs.declared.Vector4f.{Vector4f}
@@ -7,7 +7,7 @@ use Rattle.line_text.specs.Pieces.{field}
 
 -- a hexadecimal digit: `0` to `9`, then `a` to `f`
 abbrev pub hex_digit : ℕ → ℕ
-hex_digit d = cond (ltb d 10) (48 + d) (87 + d)
+hex_digit d = if nat_lt d 10 then 48 + d else 87 + d
 
 -- the last k hexadecimal digits of n
 abbrev pub hex_digits : ℕ → ℕ → List ℕ

@@ -1,79 +1,74 @@
-// A line's text, as it grows: bytes, texts and decimal numbers, each behind what is there.
-
-ghost use Rattle.std.specs.Prelude.{◌≡◌, [], ◌∷◌, ◌++◌, length, take, drop};
+//! What a line is made of: text, decimal numbers and wheel speeds, each put behind the bytes that are there.
+ghost use Rattle.std.specs.Prelude.{◌≤◌, ◌≡◌, ◌+◌, length};
 ghost use Rattle.line_text.specs.Pieces.{decimal, field};
-ghost use Rattle.line_text.specs.Puts.{Within};
+ghost use Rattle.line_text.specs.Puts.{Puts};
+ghost use Rattle.line_text.specs.Wheels.{hex, wheels_text};
 
+use crate::line::LINE;
+use ieee754::bits::to_bits;
 use itoa::Buffer;
-use std::marker::Model;
+use linear::Vector4f;
 
-// A text of at most N bytes, in the value itself, for there is no heap; what doesn't fit is left out.
-// No `write!`: it answers an error or none, and no law says that it answers none where there is room.
-#[derive(Drop)]
-pub struct Text<const N: usize> {
-    bytes: [u8; N],
-    len: usize,
+// Puts a text behind the first `at` bytes, and answers where it ends.
+pub(crate) fn put(out: &mut [u8; LINE], at: usize, text: &[u8]) -> usize
+    requires { at + length text.now ≤ 128 }
+    ensures puts { Puts out.old at text.now out.new result }
+{
+    let end = at + text.len();
+    out[at..end].copy_from_slice(text);
+    end
 }
 
-// Clauses see the bytes so far.
-impl<const N: usize> Model for Text<N> {
-    ghost use Rattle.std.specs.Prelude.{List, ℕ, take, ◌≤◌};
-
-    ghost Value = { List ℕ };
-
-    ghost view = { λ t. take t.len t.bytes };
-
-    ghost invariant = { λ t. t.len ≤ N };
+// A number's decimal digits.
+#[tactic(auto, using(crate::proofs::Digits::same, crate::proofs::Digits::at_most_ten))]
+pub(crate) fn put_decimal(out: &mut [u8; LINE], at: usize, n: u32) -> usize
+    requires { at + 10 ≤ 128 }
+    ensures puts { Puts out.old at (decimal n) out.new result }
+    ensures upper_bound { result ≤ at + 10 }
+{
+    put(out, at, Buffer::new().format(n).as_bytes())
 }
 
-impl<const N: usize> Text<N> {
-    pub fn new() -> Self
-        ensures { result ≡ [] }
-    {
-        Text {
-            bytes: [0; N],
-            len: 0,
-        }
-    }
+// A space and a number.
+pub(crate) fn put_number(out: &mut [u8; LINE], at: usize, n: u32) -> usize
+    requires { at + 11 ≤ 128 }
+    ensures puts { Puts out.old at (field (decimal n)) out.new result }
+    ensures upper_bound { result ≤ at + 11 }
+{
+    let at = put(out, at, b" ");
+    put_decimal(out, at, n)
+}
 
-    // A text behind what is there.
-    #[tactic(auto, using(crate::proofs::Growing::stored))]
-    pub fn push(&mut self, text: &[u8])
-        ensures { self.new ≡ take N (self.old ++ text.now) }
-    {
-        let len = (N - self.len).min(text.len());
-        let bytes = &mut self.bytes[..];
-        bytes[self.len..self.len + len].copy_from_slice(&text[..len]);
-        self.len += len;
-    }
+// A float's bits as eight hexadecimal digits. (Four bytes fill them, so the library answers no error.)
+#[tactic(auto, using(crate::proofs::Library::same), unfolding(crate::specs::Wheels::hex))]
+fn put_hex(out: &mut [u8; LINE], at: usize, x: f32) -> usize
+    requires { at + 8 ≤ 128 }
+    ensures puts { Puts out.old at (hex x) out.new result }
+    ensures end { result ≡ at + 8 }
+{
+    let end = at + 8;
+    let _ = hex::encode_to_slice(to_bits(x).to_be_bytes(), &mut out[at..end]);
+    end
+}
 
-    // A number's decimal digits.
-    #[tactic(auto, using(crate::proofs::Digits::same))]
-    pub fn push_decimal(&mut self, n: u32)
-        ensures { self.new ≡ take N (self.old ++ decimal n) }
-    {
-        self.push(Buffer::new().format(n).as_bytes());
-    }
+// A float, behind a space.
+fn put_wheel(out: &mut [u8; LINE], at: usize, x: f32) -> usize
+    requires { at + 9 ≤ 128 }
+    ensures puts { Puts out.old at (field (hex x)) out.new result }
+    ensures end { result ≡ at + 9 }
+{
+    let digits = put(out, at, b" ");
+    put_hex(out, digits, x)
+}
 
-    // A space and a number.
-    pub fn push_number(&mut self, n: u32)
-        ensures { self.new ≡ take N (self.old ++ field (decimal n)) }
-    {
-        self.push(b" ");
-        self.push_decimal(n);
-    }
-
-    // Puts the text at the start of buf, and answers how long it is; what stands behind it there stays.
-    // (`Within` is what `&buf[..r]` asks.)
-    // A length beside the caller's bytes: memory is fixed, with no heap for a String.
-    // Each writer of a line has these clauses: a name for the three would hide which bytes stand where.
-    pub fn put(&self, buf: &mut [u8; N]) -> usize
-        ensures value { result ≡ length self.now }
-        ensures buf_after { buf.new ≡ self.now ++ drop (length self.now) buf.old }
-        ensures within { Within result buf.new }
-    {
-        let len = self.len;
-        buf[..len].copy_from_slice(&self.bytes[..len]);
-        len
-    }
+// Four wheel speeds.
+pub(crate) fn put_wheels(out: &mut [u8; LINE], at: usize, v: Vector4f) -> usize
+    requires { at + 36 ≤ 128 }
+    ensures puts { Puts out.old at (wheels_text v) out.new result }
+    ensures end { result ≡ at + 36 }
+{
+    let at = put_wheel(out, at, v.x);
+    let at = put_wheel(out, at, v.y);
+    let at = put_wheel(out, at, v.z);
+    put_wheel(out, at, v.w)
 }

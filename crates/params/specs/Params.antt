@@ -1,4 +1,4 @@
--- The constants of controller_params.rs by their bits, each under its Rust name. Assumes nothing.
+-- The constants of controller_params.rs by their bits, each under its Rust name.
 use Rattle.std.specs.Prelude.{ℕ, List, [], ◌∷◌, Float}
 use Rattle.std.specs.Float.{binary32}
 use Rattle.std.specs.Float.Ieee.{of_bits}
@@ -83,7 +83,7 @@ vision_seed_samples = 20
 abbrev pub vision_seed_pos_std_thresh_m : Float
 vision_seed_pos_std_thresh_m = of_bits binary32 0x3cf5_c28f
 
--- 3.0 * (3 as f32 * (1.0 / 60.0) + 0.150) + 0.005, document 01's base
+-- 3.0 * (3 as f32 * (1.0 / 60.0) + 0.150) + 0.005
 abbrev pub vision_gate_base_radius_m : Float
 vision_gate_base_radius_m = of_bits binary32 0x3f1a_e148
 

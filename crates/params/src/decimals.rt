@@ -1,4 +1,4 @@
-// What is proved of the constants' decimals: a function that does nothing, for its clauses.
+//! What is proved of the constants' decimals: a function that does nothing, for its clauses.
 
 ghost use Rattle.params.specs.Decimals.{AngularClampIsWritten, BaseRadiusIsWritten, ClockStartIsWritten};
 ghost use Rattle.params.specs.Decimals.{BrakeLeastCurrentIsWritten, TrackingIsWritten, LimitsAreWritten};

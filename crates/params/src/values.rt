@@ -1,5 +1,5 @@
-// Every constant of `params`, in that file's order. The contracts tie each to its bits in
-// `params`' specs/.
+//! Every constant of the crate, in the order of lib.rt. The contracts tie each to its bits.
+
 ghost use Rattle.std.specs.Prelude.{◌≡◌};
 ghost use Rattle.params.specs.Params.{tracking_values, limit_values, count_values};
 
@@ -15,7 +15,7 @@ use crate::{
     VISION_SEED_SAMPLES,
 };
 
-// Gains, thresholds and gates.
+/// Gains, thresholds and gates.
 pub fn tracking_values() -> [f32; 23]
     ensures { result ≡ tracking_values }
 {
@@ -46,7 +46,7 @@ pub fn tracking_values() -> [f32; 23]
     ]
 }
 
-// Clamps, and the numbers of brake, recovery, vision and encoder lag.
+/// Clamps, and the numbers of brake, recovery, vision and encoder lag.
 pub fn limit_values() -> [f32; 16]
     ensures { result ≡ limit_values }
 {
@@ -70,7 +70,7 @@ pub fn limit_values() -> [f32; 16]
     ]
 }
 
-// Counts and durations.
+/// Counts and durations.
 pub fn count_values() -> [u32; 4]
     ensures { result ≡ count_values }
 {

@@ -1,5 +1,7 @@
 -- Laws and lemmas.
-pub mod EveryPass
+pub mod Appending
 pub mod Batches
 pub mod BatchHolds
+pub mod EveryPass
 pub mod Going
+pub mod Read

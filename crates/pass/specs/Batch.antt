@@ -1,11 +1,20 @@
--- A run of bytes, driven block by block: document 01, 'Cases', program `drive`. Assumes nothing.
-use Rattle.std.specs.Prelude.{ℕ, zero, suc, ◌/◌, Bool, false, cond, List, [], ◌∷◌, ◌++◌, length, take, drop}
-use Rattle.line_text.specs.declared.Line.{Line}
+-- A run of bytes, driven block by block (docs/RULES.md, 'Every batch').
+use Rattle.std.specs.Prelude.{ℕ, zero, suc, ◌/◌, Bool, true, false, if◌then◌else◌, List, [], ◌∷◌, ◌++◌, length, take, drop}
+use Rattle.line_text.specs.declared.line.Line.{Line}
+use Rattle.line_text.specs.declared.line.Line.TheVariants.{Tick, Refused}
 use Rattle.line_text.specs.Text.{line_text}
-use Rattle.pass.specs.declared.driven.Pass.{Pass}
-use Rattle.pass.specs.Blocks.{driven}
-use Rattle.pass.specs.declared.written.Written.{Written}
-use Rattle.pass.specs.Driven.{is_refused}
+use Rattle.pass.specs.declared.pass.Pass.{Pass}
+use Rattle.pass.specs.Pass.{driven}
+use Rattle.pass.specs.declared.batch.Written.{Written}
+
+-- a refused block's line
+abbrev pub is_refused : Line → Bool
+is_refused (Tick t) = false
+is_refused (Refused r) = true
+
+-- how long a line's text is, and whether its block was refused
+unfoldable pub written : Line → Written
+written line = record { len = length (line_text line); refused = is_refused line }
 
 -- the first block of the bytes, shorter than 512 where they are, and what stands behind it
 unfoldable pub first_block : List ℕ → List ℕ
@@ -25,17 +34,19 @@ abbrev pub nothing : Pass → Batched
 nothing p = record { blocks = []; lines = []; pass = p; over = false }
 
 abbrev pub one_block : Pass → List ℕ → Batched
-one_block p block = record { blocks = block ∷ []; lines = (driven p block).line ∷ []; pass = (driven p block).pass; over = is_refused (driven p block).line }
+one_block p block = let d = driven p block in record { blocks = block ∷ []; lines = d.line ∷ []; pass = d.pass; over = is_refused d.line }
 
--- 'A refused block .. ends the reading': what follows counts only where none was refused
-abbrev pub then : Batched → Batched → Batched
-then t rest = cond t.over t (record { blocks = t.blocks ++ rest.blocks; lines = t.lines ++ rest.lines; pass = rest.pass; over = rest.over })
+-- a refused block ends the reading: what follows counts only where none was refused
+abbrev pub followed_by : Batched → Batched → Batched
+followed_by t rest = if t.over then t else record rest { blocks = t.blocks ++ rest.blocks; lines = t.lines ++ rest.lines }
 
 -- up to n blocks of the bytes
 unfoldable pub batch_of : ℕ → Pass → List ℕ → Batched
 batch_of zero p bytes = nothing p
 batch_of (suc n) p [] = nothing p
-batch_of (suc n) p (b ∷ bytes) = then (one_block p (first_block (b ∷ bytes))) (batch_of n (driven p (first_block (b ∷ bytes))).pass (behind_first (b ∷ bytes)))
+batch_of (suc n) p (b ∷ bytes) =
+    let first = one_block p (first_block (b ∷ bytes)) in
+    followed_by first (batch_of n first.pass (behind_first (b ∷ bytes)))
 
 -- all of the bytes: there are no more blocks than bytes
 unfoldable pub whole_of : Pass → List ℕ → Batched
@@ -52,6 +63,6 @@ text_of (line ∷ lines) = line_text line ++ text_of lines
 unfoldable pub batch_into : List ℕ → Pass → List ℕ → Batched
 batch_into out p bytes = batch_of (length out / 128) p bytes
 
--- the pass, the length of the text, and whether a refusal ended the reading
+-- the length of the text, and whether a refusal ended the reading
 unfoldable pub answer_of : Batched → Written
-answer_of t = record { pass = t.pass; len = length (text_of t.lines); refused = t.over }
+answer_of t = record { len = length (text_of t.lines); refused = t.over }

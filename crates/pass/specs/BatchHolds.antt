@@ -1,7 +1,7 @@
 -- The pass theorem, of batches. Proved in proofs/BatchHolds.antt.
 use Rattle.std.specs.Prelude.{ℕ, List, reverse}
-use Rattle.pass.specs.declared.driven.Pass.{Pass}
-use Rattle.pass.specs.declared.driven.Pass.TheVariants.{Empty}
+use Rattle.pass.specs.declared.pass.Pass.{Pass}
+use Rattle.pass.specs.declared.pass.Pass.TheVariants.{Empty}
 use Rattle.pass.specs.PlainPass.{PassHolds}
 use Rattle.pass.specs.Batch.{Batched, batch_of}
 

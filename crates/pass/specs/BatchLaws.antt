@@ -2,8 +2,8 @@
 -- proofs/Batches.antt.
 use Rattle.std.specs.Prelude.{ℕ, ◌*◌, ◌≤◌, ◌≡◌, false, length, List, ◌++◌}
 use mathlib.Core.List.{flatten}
-use Rattle.pass.specs.declared.driven.Pass.{Pass}
-use Rattle.pass.specs.Batch.{then, batch_of, whole_of, text_of}
+use Rattle.pass.specs.declared.pass.Pass.{Pass}
+use Rattle.pass.specs.Batch.{followed_by, batch_of, whole_of, text_of}
 
 -- a batch with room for all of the bytes' blocks drives all of them
 abbrev pub RoomIsEnough : Type 0
@@ -11,7 +11,7 @@ RoomIsEnough = (n : ℕ) (p : Pass) (bytes : List ℕ) → length bytes ≤ n * 
 
 -- whole blocks, and then the bytes behind them, are driven as all of them at once
 abbrev pub BatchesJoin : Type 0
-BatchesJoin = (n : ℕ) (p : Pass) (a b : List ℕ) → length a ≡ n * 512 → then (whole_of p a) (whole_of (whole_of p a).pass b) ≡ whole_of p (a ++ b)
+BatchesJoin = (n : ℕ) (p : Pass) (a b : List ℕ) → length a ≡ n * 512 → followed_by (whole_of p a) (whole_of (whole_of p a).pass b) ≡ whole_of p (a ++ b)
 
 -- and so is their text
 abbrev pub TextsJoin : Type 0

@@ -1,58 +1,50 @@
 -- The plain drive on a pass: what the lines of blocks given one after the other must say, and what holds after the calls of those blocks. It is fed
--- the blocks alone.
-use Rattle.std.specs.Prelude.{ℕ, ◌≡◌, Bool, true, false, cond, List, [], ◌∷◌, eqb, Result, Ok, Err}
+-- the blocks alone (docs/RULES.md, 'Every list of blocks').
+use Rattle.std.specs.Prelude.{ℕ, ◌≡◌, Bool, true, false, if◌then◌else◌, ◌==◌, List, [], ◌∷◌, Option, Some, None, Result, Ok, Err}
+use Rattle.tick.specs.declared.action.GateAction.{GateAction}
+use Rattle.tick.specs.declared.inputs.TickInput.{TickInput}
 use Rattle.tick.specs.declared.refusal.Refusal.{Refusal}
-use Rattle.tick.specs.Refusal.{refusal_number}
-use Rattle.tick.specs.TickLength.{is_tick_length, seconds_of}
-use Rattle.tick.specs.Outcome.{letter_of}
+use Rattle.tick.specs.declared.start.Start.{Start}
+use Rattle.tick.specs.Refusal.{refusal_number, number_of}
+use Rattle.tick.specs.Tally.{count_list}
 use Rattle.vision.specs.Vision.{active}
 use Rattle.control_context.specs.Divergence.{is_recovering}
-use Rattle.tick.specs.declared.inputs.TickInput.{TickInput}
-use Rattle.tick.specs.Counts.{count_list}
 use Rattle.plain_drive.specs.Calls.{Call, sight, plan, steer, finish, Reply, outcome, answer, accepted, refused}
 use Rattle.plain_drive.specs.PlainDrive as Plain
 use Rattle.plain_drive.specs.EveryList.{Entry, calls_of, Holds}
-use Rattle.line_text.specs.declared.Ending.{Ending}
-use Rattle.line_text.specs.declared.Ending.TheVariants.{Wheels, Failed}
-use Rattle.line_text.specs.declared.Line.{Line}
-use Rattle.line_text.specs.declared.Line.TheVariants as Lines
+use Rattle.line_text.specs.declared.line.Line.{Line}
+use Rattle.line_text.specs.declared.line.Line.TheVariants as Lines
 use Rattle.tick_block.specs.declared.TickBlock.{TickBlock}
 use Rattle.tick_block.specs.Block as Blocks
-use Rattle.pass.specs.declared.driven.Driven.{Driven}
-use Rattle.pass.specs.declared.driven.Pass.{Pass}
-use Rattle.pass.specs.declared.driven.Pass.TheVariants.{Empty, Driving}
-use Rattle.pass.specs.Pass.{next_number, counts_of}
-use Rattle.pass.specs.Blocks.{driven}
+use Rattle.pass.specs.declared.pass.Pass.{Pass}
+use Rattle.pass.specs.declared.pass.Pass.TheVariants.{Empty, Driving}
+use Rattle.pass.specs.Pass.{next_number, totals_of, driven}
 
 -- ---- what is compared of a line
 
--- number, letter, V, B and the refusal that ended the tick, 0 for none; or number and refusal of a refused block
+-- number, outcome, V, B and the number of the refusal that ended the tick, 0 for none; or number and refusal's number of a refused block
 pub data Mark : Type 0 where
-  tick : ℕ → ℕ → Bool → Bool → ℕ → Mark
+  tick : ℕ → Option GateAction → Bool → Bool → ℕ → Mark
   turned_away : ℕ → ℕ → Mark
 
-abbrev pub ending_number : Ending → ℕ
-ending_number (Wheels w) = 0
-ending_number (Failed n) = n
-
 abbrev pub mark_of : Line → Mark
-mark_of (Lines.Tick t) = tick t.number t.letter t.active t.recovering (ending_number t.ending)
-mark_of (Lines.Refused r) = turned_away r.number r.refusal
+mark_of (Lines.Tick t) = tick t.number (Some t.action) t.active t.recovering (number_of t.ending)
+mark_of (Lines.Refused r) = turned_away r.number (refusal_number r.refusal)
 
 -- ---- the plain drive on blocks
 
--- before the first accepted block; then its k, and the calls so far, the latest first
+-- before the first accepted block; then what that block chose, and the calls so far, the latest first
 pub data PlainPass : Type 0 where
   none : PlainPass
-  at : ℕ → List Call → PlainPass
+  at : Start → List Call → PlainPass
 
 pub record PlainDriven : Type 0 where
   pub mark : Mark
   pub pass : PlainPass
 
 -- the plain drive's reply to a call after these
-abbrev pub reply_after : ℕ → List Call → Call → Reply
-reply_after k calls call = (Plain.step (seconds_of k) (Plain.driven k calls) call).reply
+abbrev pub reply_after : Start → List Call → Call → Reply
+reply_after start calls call = (Plain.step start (Plain.driven start calls) call).reply
 
 abbrev pub is_refused : Reply → Bool
 is_refused (outcome a) = false
@@ -67,59 +59,62 @@ refusal_in (answer p) = 0
 refusal_in accepted = 0
 refusal_in (refused n) = n
 
--- the outcome's letter, 0 where there is none
-abbrev pub letter_in : Reply → ℕ
-letter_in (outcome a) = letter_of a
-letter_in (answer p) = 0
-letter_in accepted = 0
-letter_in (refused n) = 0
-
--- a tick that ended after these calls, with its marks at the end
-abbrev pub ended_at : ℕ → List Call → ℕ → ℕ → ℕ → PlainDriven
-ended_at k calls number letter ending = record {
-  mark = tick number letter (active (Plain.driven k calls).clock) (is_recovering (Plain.driven k calls).recovering) ending;
-  pass = at k calls;
-}
-
--- the calls of a block, up to the first that is turned away
-abbrev pub at_finish : ℕ → List Call → ℕ → ℕ → TickInput → PlainDriven
-at_finish k calls number letter i = ended_at k (finish i.finish ∷ calls) number letter (refusal_in (reply_after k calls (finish i.finish)))
-
-abbrev pub at_steer : ℕ → List Call → ℕ → ℕ → TickInput → PlainDriven
-at_steer k calls number letter i =
-    cond (is_refused (reply_after k calls (steer i.steer)))
-    (ended_at k (steer i.steer ∷ calls) number letter (refusal_in (reply_after k calls (steer i.steer))))
-    (at_finish k (steer i.steer ∷ calls) number letter i)
-
-abbrev pub at_plan : ℕ → List Call → ℕ → ℕ → TickInput → PlainDriven
-at_plan k calls number letter i =
-    cond (is_refused (reply_after k calls (plan i.plan)))
-    (ended_at k (plan i.plan ∷ calls) number letter (refusal_in (reply_after k calls (plan i.plan))))
-    (at_steer k (plan i.plan ∷ calls) number letter i)
-
-unfoldable pub plain_tick : ℕ → List Call → TickInput → PlainDriven
-plain_tick k calls i =
-    cond (is_refused (reply_after k calls (sight i.sight)))
-    (record { mark = turned_away (Plain.driven k calls).ticks (refusal_in (reply_after k calls (sight i.sight))); pass = at k calls })
-    (at_plan k (sight i.sight ∷ calls) (Plain.driven k calls).ticks (letter_in (reply_after k calls (sight i.sight))) i)
+abbrev pub outcome_in : Reply → Option GateAction
+outcome_in (outcome a) = Some a
+outcome_in (answer p) = None
+outcome_in accepted = None
+outcome_in (refused n) = None
 
 -- the number that the next tick would have, and the counts
 abbrev pub plain_ticks : PlainPass → ℕ
 plain_ticks none = 0
-plain_ticks (at k calls) = (Plain.driven k calls).ticks
+plain_ticks (at start calls) = (Plain.driven start calls).ticks
 
 abbrev pub plain_counts : PlainPass → List ℕ
-plain_counts none = Plain.start.counts
-plain_counts (at k calls) = (Plain.driven k calls).counts
+plain_counts none = Plain.new_drive.counts
+plain_counts (at start calls) = (Plain.driven start calls).counts
 
 -- a refused block: nothing changes
 abbrev pub refused_at : ℕ → PlainPass → PlainDriven
 refused_at n p = record { mark = turned_away (plain_ticks p) n; pass = p }
 
--- an accepted block's k makes the drive; 9, then 10
+-- a tick that ended after these calls, with its marks at the end
+abbrev pub ended_at : Start → List Call → ℕ → Option GateAction → ℕ → PlainDriven
+ended_at start calls number action ending = record {
+  mark = tick number action (active (Plain.driven start calls).clock) (is_recovering (Plain.driven start calls).recovering) ending;
+  pass = at start calls;
+}
+
+-- the calls of a block, up to the first that is turned away
+abbrev pub at_finish : Start → List Call → ℕ → Option GateAction → TickInput → PlainDriven
+at_finish start calls number action i = ended_at start (finish i.finish ∷ calls) number action (refusal_in (reply_after start calls (finish i.finish)))
+
+abbrev pub at_steer : Start → List Call → ℕ → Option GateAction → TickInput → PlainDriven
+at_steer start calls number action i =
+    if is_refused (reply_after start calls (steer i.steer))
+    then ended_at start (steer i.steer ∷ calls) number action (refusal_in (reply_after start calls (steer i.steer)))
+    else at_finish start (steer i.steer ∷ calls) number action i
+
+abbrev pub at_plan : Start → List Call → ℕ → Option GateAction → TickInput → PlainDriven
+at_plan start calls number action i =
+    if is_refused (reply_after start calls (plan i.plan))
+    then ended_at start (plan i.plan ∷ calls) number action (refusal_in (reply_after start calls (plan i.plan)))
+    else at_steer start (plan i.plan ∷ calls) number action i
+
+-- of a pass p
+unfoldable pub plain_tick : PlainPass → Start → List Call → TickInput → PlainDriven
+plain_tick p start calls i =
+    if is_refused (reply_after start calls (sight i.sight))
+    then refused_at (refusal_in (reply_after start calls (sight i.sight))) p
+    else at_plan start (sight i.sight ∷ calls) (Plain.driven start calls).ticks (outcome_in (reply_after start calls (sight i.sight))) i
+
+-- the first block's number is 0, and its tick length makes the drive; a later block's tick length is the drive's (9), and its number the next (10)
 abbrev pub plain_take : PlainPass → TickBlock → PlainDriven
-plain_take none b = cond (eqb b.number 0) (cond (is_tick_length b.tick.k) (plain_tick b.tick.k [] b.inputs) (refused_at 1 none)) (refused_at 10 none)
-plain_take (at k calls) b = cond (eqb b.tick.k k) (cond (eqb b.number (Plain.driven k calls).ticks) (plain_tick k calls b.inputs) (refused_at 10 (at k calls))) (refused_at 9 (at k calls))
+plain_take none b = if b.number == 0 then plain_tick none (record { tick_length = b.tick_length }) [] b.inputs else refused_at 10 none
+plain_take (at start calls) b =
+    if b.tick_length == start.tick_length
+    then (if b.number == (Plain.driven start calls).ticks then plain_tick (at start calls) start calls b.inputs else refused_at 10 (at start calls))
+    else refused_at 9 (at start calls)
 
 abbrev pub plain_read : Result TickBlock Refusal → PlainPass → PlainDriven
 plain_read (Ok b) p = plain_take p b
@@ -135,12 +130,12 @@ unfoldable pub plain_marks : List (List ℕ) → List Mark
 plain_marks [] = []
 plain_marks (block ∷ blocks) = (plain_read (Blocks.block_read block) (plain_pass blocks)).mark ∷ plain_marks blocks
 
--- blocks given one after the other leave these lines and this pass: each is a result that the contract of `drive` allows
+-- blocks given one after the other leave these lines and this pass: each is what the contract of `drive` says
 unfoldable pub Passed : List (List ℕ) → List Line → Pass → Type 0
 Passed [] [] q = q ≡ Empty
 Passed [] (line ∷ lines) q = ⊥
 Passed (block ∷ blocks) [] q = ⊥
-Passed (block ∷ blocks) (line ∷ lines) q = (p : Pass) × Passed blocks lines p × (r : Driven) × (r ≡ driven p block) × (line ≡ r.line) × (q ≡ r.pass)
+Passed (block ∷ blocks) (line ∷ lines) q = (p : Pass) × Passed blocks lines p × (line ≡ (driven p block).line) × (q ≡ (driven p block).pass)
 
 unfoldable pub marks_of : List Line → List Mark
 marks_of [] = []
@@ -149,16 +144,16 @@ marks_of (line ∷ lines) = mark_of line ∷ marks_of lines
 -- the controller of a pass stands behind a list of calls, those of the blocks, and what holds after every list of calls holds of it
 abbrev pub StandsOn : Pass → PlainPass → Type 0
 StandsOn Empty none = Unit {0}
-StandsOn Empty (at k calls) = ⊥
+StandsOn Empty (at start calls) = ⊥
 StandsOn (Driving c) none = ⊥
-StandsOn (Driving c) (at k calls) = (h : List Entry) × (calls_of h ≡ calls) × Holds k h c
+StandsOn (Driving c) (at start calls) = (h : List Entry) × (calls_of h ≡ calls) × Holds start h c
 
 pub record PassHolds (blocks : List (List ℕ)) (lines : List Line) (q : Pass) : Type 0 where
-  -- letters, V and B, and refusals of the lines are the plain drive's
+  -- numbers, outcomes, V and B, and refusals of the lines are the plain drive's
   pub marks : marks_of lines ≡ plain_marks blocks
   -- the last line's numbers are its ticks and counts
   pub ticks : next_number q ≡ plain_ticks (plain_pass blocks)
-  pub counts : count_list (counts_of q) ≡ plain_counts (plain_pass blocks)
+  pub counts : count_list (totals_of q).counts ≡ plain_counts (plain_pass blocks)
   -- so each V means what the cameras' clause of `Holds` says
   pub stands : StandsOn q (plain_pass blocks)
 

@@ -1,57 +1,60 @@
--- A tick, a term of document 01: the four calls, up to the first that is turned away ('The calls'), and its line ('Cases', program `drive`).
--- Assumes nothing.
+-- A tick: the four calls, up to the first that is turned away, and its line (docs/RULES.md, 'The five calls' and 'The lines of drive').
 use Rattle.std.specs.Prelude.{ℕ, Result, Ok, Err}
+use Rattle.std.specs.Result.{result_map_both}
+use Rattle.linear.specs.declared.Vector4f.{Vector4f}
+use Rattle.tick.specs.declared.action.GateAction.{GateAction}
+use Rattle.tick.specs.declared.inputs.TickInput.{TickInput}
 use Rattle.tick.specs.declared.refusal.Refusal.{Refusal}
-use Rattle.tick.specs.Refusal.{refusal_number}
-use Rattle.tick.specs.Outcome.{letter_of}
 use Rattle.vision.specs.Vision.{active}
 use Rattle.control_context.specs.Divergence.{is_recovering}
-use Rattle.body_controller.specs.declared.answers.Finished.{Finished}
-use Rattle.body_controller.specs.declared.answers.Sighted.{Sighted}
-use Rattle.tick.specs.declared.inputs.TickInput.{TickInput}
 use Rattle.body_controller.specs.declared.BodyController.{BodyController}
 use Rattle.body_controller.specs.declared.Called.{Called}
+use Rattle.body_controller.specs.declared.finish.Finished.{Finished}
+use Rattle.body_controller.specs.declared.sight.Sighted.{Sighted}
 use Rattle.body_controller.specs.Controller.{refused}
 use Rattle.body_controller.specs.Sight.{sight_of}
 use Rattle.body_controller.specs.Plan.{plan_of}
 use Rattle.body_controller.specs.Steer.{steer_of}
 use Rattle.body_controller.specs.Finish.{finish_of}
-use Rattle.line_text.specs.declared.Ending.{Ending}
-use Rattle.line_text.specs.declared.Ending.TheVariants.{Wheels, Failed}
-use Rattle.line_text.specs.declared.Line.TheVariants as Lines
-use Rattle.pass.specs.declared.calls.Ticked.{Ticked}
+use Rattle.line_text.specs.declared.line.TickLine.{TickLine}
 
--- 'four wheel speeds, or in their place E11, E12'
-abbrev pub ending_of : Result Finished Refusal → Ending
-ending_of (Ok f) = Wheels f.outputs.wheel_vel_out
-ending_of (Err r) = Failed (refusal_number r)
+-- a tick's line, and the controller as the tick leaves it
+pub record Ticked : Type 0 where
+  pub line : TickLine
+  pub controller : BodyController
 
--- 'number, letter, V or - for active at its end, N or B (recovering)', and the ending: of the tick's last call
-unfoldable pub ended_by : Called Finished → ℕ → ℕ → Ticked
-ended_by last number letter = record {
-  line = Lines.Tick (record { number = number; letter = letter; active = active last.controller.context.vision.time_since_vision_update_s; recovering = is_recovering last.controller.context.divergence; ending = ending_of last.answer });
+-- four wheel speeds, or the refusal that ended the tick
+abbrev pub ending_of : Result Finished Refusal → Result Vector4f Refusal
+ending_of a = result_map_both (λ (f : Finished). f.outputs.wheel_vel_out) (λ r. r) a
+
+-- the line of a tick that ended with this call, with the marks at its end
+unfoldable pub ended_by : Called Finished → ℕ → GateAction → Ticked
+ended_by last number action = record {
+  line = record {
+    number = number;
+    action = action;
+    active = active last.controller.context.vision.time_since_vision_update_s;
+    recovering = is_recovering last.controller.context.divergence;
+    ending = ending_of last.answer;
+  };
   controller = last.controller;
 }
 
--- the tick ends with the first call that is turned away
-abbrev pub then : {A B : Type 0} → Result A Refusal → BodyController → (BodyController → Called B) → Called B
-then (Ok a) c next = next c
-then (Err r) c next = refused r c
+-- the next call, where this one was accepted: the tick ends with the first that is turned away
+abbrev pub if_accepted : {A B : Type 0} → Result A Refusal → BodyController → (BodyController → Called B) → Called B
+if_accepted (Ok a) c next = next c
+if_accepted (Err r) c next = refused r c
 
 unfoldable pub steered : BodyController → TickInput → Called Finished
-steered c i = then (steer_of c i.steer).answer (steer_of c i.steer).controller (λ d. finish_of d i.finish)
+steered c i = let s = steer_of c i.steer in if_accepted s.answer s.controller (λ d. finish_of d i.finish)
 
 unfoldable pub planned : BodyController → TickInput → Called Finished
-planned c i = then (plan_of c i.plan).answer (plan_of c i.plan).controller (λ d. steered d i)
+planned c i = let p = plan_of c i.plan in if_accepted p.answer p.controller (λ d. steered d i)
 
--- 'A refused block .. prints the number its tick would have had, `!`, the refusal'; the controller stays
-unfoldable pub refused_at : BodyController → Refusal → Ticked
-refused_at c r = record { line = Lines.Refused (record { number = c.ticks; refusal = refusal_number r }); controller = c }
+-- c is the controller before sight, and d the one after it; where sight refuses, so is the block
+abbrev pub ticked_with : Result Sighted Refusal → BodyController → BodyController → TickInput → Result Ticked Refusal
+ticked_with (Ok s) c d i = Ok (ended_by (planned d i) c.tally.ticks s.action)
+ticked_with (Err r) c d i = Err r
 
--- c is the controller before sight, and d the one after it
-abbrev pub ticked_with : Result Sighted Refusal → BodyController → BodyController → TickInput → Ticked
-ticked_with (Ok a) c d i = ended_by (planned d i) c.ticks (letter_of a.action)
-ticked_with (Err r) c d i = refused_at c r
-
-unfoldable pub ticked : BodyController → TickInput → Ticked
-ticked c i = ticked_with (sight_of c i.sight).answer c (sight_of c i.sight).controller i
+unfoldable pub ticked : BodyController → TickInput → Result Ticked Refusal
+ticked c i = let s = sight_of c i.sight in ticked_with s.answer c s.controller i

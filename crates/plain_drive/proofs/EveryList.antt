@@ -6,125 +6,91 @@ use native.Mathlib.Nat.{le-div_iff_mul-le}
 use native.Mathlib.Omega.{arith}
 use mathlib.Core.Bool.{Bool, true, false, cond, not, ◌&&◌, ◌||◌, true≢false}
 use mathlib.Core.List.{List, [], ◌∷◌}
-use borrow.Author.Tests.{ltb-true, ltb-false, leb-true, lt-ltb, le-ltb, le-leb}
+use borrow.Author.Tests.{leb-true, le-leb}
 use lib.Dec.{T, lit≤, leb, ltb}
 use lib.IntN.{pos}
 use lib.Ieee.{Float, binary32, le, of_int}
-use Rattle.std.specs.Prelude.{Result, Ok, Err}
-use Rattle.std.specs.Result.{result_map_both}
-use Rattle.tick.specs.declared.tick_length.TickLength.{TickLength}
-use Rattle.tick.specs.TickLength.{is_tick_length, tick_length_of, seconds_of}
+use Rattle.std.specs.Prelude.{All, sum}
+use Rattle.std.proofs.lemmas.List.Sums.{get_or-le-sum_by}
+use Rattle.tick.specs.declared.start.Start.{Start}
+use Rattle.tick.specs.TickLength.{IsTickLength}
+use Rattle.tick.specs.Start.{IsStart}
+use Rattle.tick.specs.Tally.{count_list, tick_limit}
+use Rattle.tick.specs.declared.inputs.SightInput.{SightInput}
+use Rattle.tick.specs.declared.refusal.Refusal.TheVariants as Why
+use Rattle.tick.specs.Outcome.{takes}
+use Rattle.tick.proofs.TickLengthExact.{bounds_tick_length}
 use Rattle.vision.specs.declared.gate.VisionGateState.{VisionGateState}
 use Rattle.vision.specs.declared.gate.VisionGateState.TheVariants.{Seeding, Tracking}
-use Rattle.tick.specs.Outcome.{takes}
-use Rattle.vision.specs.Gate.{distance}
-use Rattle.vision.specs.Vision.{active, new_vision}
-use Rattle.control_context.specs.Memory.{empty_memory}
+use Rattle.vision.specs.Gate.{sighting_of, distance}
+use Rattle.vision.specs.Vision.{active}
 use Rattle.vision.proofs.Outcomes.{Small}
 use Rattle.vision.proofs.Held.{Held, held_active, unheld_inactive, held_widens}
-use Rattle.body_controller.specs.declared.BodyController.{BodyController}
-use Rattle.body_controller.specs.declared.Choices.{Choices}
-use Rattle.tick.specs.declared.inputs.SightInput.{SightInput}
-use Rattle.body_controller.specs.declared.answers.Sighted.{Sighted}
-use Rattle.body_controller.specs.declared.Called.{Called}
-use Rattle.tick.specs.declared.refusal.Refusal.{Refusal}
-use Rattle.tick.specs.declared.refusal.Refusal.TheVariants as Why
-use Rattle.tick.specs.Refusal.{number_of}
-use Rattle.body_controller.specs.Turn.{is_sight}
-use Rattle.tick.specs.Counts.{no_counts, count_list}
-use Rattle.control_context.specs.Context as Context
 use Rattle.control_context.specs.StateEstimate as ContextSight
+use Rattle.body_controller.specs.declared.BodyController.{BodyController}
+use Rattle.body_controller.specs.declared.Called.{Called}
+use Rattle.body_controller.specs.declared.sight.Sighted.{Sighted}
+use Rattle.body_controller.specs.Turn.{is_sight}
 use Rattle.body_controller.specs.Controller.{started, new_of, reset_of}
 use Rattle.body_controller.specs.Controller as Controller
-use Rattle.body_controller.specs.SightAnswer.{sight_answer}
-use Rattle.body_controller.specs.Sight.{tick_limit, seen_by, sighted, sight_of}
+use Rattle.body_controller.specs.Sight.{sighted, sight_of}
 use Rattle.body_controller.specs.Plan.{plan_of}
 use Rattle.body_controller.specs.Steer.{steer_of}
 use Rattle.body_controller.specs.Finish.{finish_of}
 use Rattle.plain_drive.specs.Calls.{Call, sight, plan, steer, finish, reset, Reply, outcome, answer, accepted, refused, is_tick, took}
-use Rattle.plain_drive.specs.PlainDrive.{DriveState, start, step, driven, driven_replies, resets_after}
-use Rattle.plain_drive.specs.EveryList.{sight_reply, plan_reply, steer_reply, finish_reply, Meets, Entry, Made, calls_of, replies_of, ticks_in, since, holding, took_within, drive_of, total, gathered_in, AllWithin, FollowsPlainDrive, EveryListRuns, NothingWraps, ActiveMeansSeen}
+use Rattle.plain_drive.specs.PlainDrive.{DriveState, step, driven, driven_replies, resets_after}
+use Rattle.plain_drive.specs.EveryList.{sight_reply, plan_reply, steer_reply, finish_reply, Meets, Entry, Made, calls_of, replies_of, ticks_in, since, holding, took_within, drive_of, gathered_in, FollowsPlainDrive, NewIsStarted, EveryListRuns, NothingWraps, ActiveMeansSeen}
 use Rattle.plain_drive.proofs.Simulation.{Follows, sight_follows, plan_follows, steer_follows, finish_follows, reset_follows}
 use Rattle.plain_drive.proofs.Watched.{vision_of, Seen, Watched, drive_watched}
 
 -- ---- the start
 
-in_range : (k : ℕ) → is_tick_length k ≡ true → (1 ≤ k) × (k ≤ 64)
-in_range k e = go (ltb k 1) refl e
-  where
-    go : (small : Bool) → ltb k 1 ≡ small → cond small false (ltb k 65) ≡ true → (1 ≤ k) × (k ≤ 64)
-    go true f g = absurd (true≢false (sym g))
-    go false f g = let below = ltb-true k 65 g in (ltb-false k 1 f, omega (arith, below))
+-- all that is used here of a start's facts
+tick_length_of_start : (start : Start) → IsStart start → IsTickLength start.tick_length
+tick_length_of_start start valid = valid
 
 -- after the calls of h, the controller is where the plain drive is, and answered as it did
-pub record Followed (k : ℕ) (h : List Entry) (c : BodyController) : Type 0 where
-  pub least : 1 ≤ k
-  pub most : k ≤ 64
-  pub tick : c.choices.tick.k ≡ k
-  pub state : drive_of c ≡ driven k (calls_of h)
-  pub replies : replies_of h ≡ driven_replies k (calls_of h)
+pub record Followed (start : Start) (h : List Entry) (c : BodyController) : Type 0 where
+  pub chosen : c.context.start ≡ start
+  pub state : drive_of c ≡ driven start (calls_of h)
+  pub replies : replies_of h ≡ driven_replies start (calls_of h)
 
-begun : (k : ℕ) (c : BodyController) → new_of k ≡ Ok c → Followed k [] c
-unfolding new_of tick_length_of
-begun k c e = go (is_tick_length k) refl e
-  where
-    at_start : started (record { tick = record { k = k } }) ≡ c → is_tick_length k ≡ true → Followed k [] c
-    at_start f g = rw (← f) (record {
-      least = (in_range k g).0;
-      most = (in_range k g).1;
-      tick = unfold started in refl;
-      state = unfold started Context.new_context drive_of driven calls_of start new_vision empty_memory no_counts in refl;
-      replies = unfold replies_of driven_replies calls_of in refl;
-    })
+begun : (start : Start) → Followed start [] (started start)
+begun start = record {
+  chosen = refl;
+  state = unfold driven calls_of in refl;
+  replies = unfold replies_of driven_replies calls_of in refl;
+}
 
-    go : (b : Bool) → is_tick_length k ≡ b → result_map_both (λ (t : TickLength). started (record { tick = t })) (λ (r : Refusal). r) (cond {A = Result TickLength Refusal} b (Ok (record { k = k })) (Err Why.TickLength)) ≡ Ok c → Followed k [] c
-    go true f g = at_start (let same : started (record { tick = record { k = k } }) ≡ c = cc in same) f
-    go false f g = let clash : ◌≡◌ {A = ℕ} 1 0 = ap number_of g in absurd (omega (arith, clash))
+pub new_is_started : NewIsStarted
+new_is_started k l g = (record { tick_length = k }, (l, g), refl, rw (bounds_tick_length k (l, g)) refl)
 
 -- ---- a call
 
-within_total : (n : ℕ) (ns : List ℕ) → total ns ≤ n → AllWithin n ns
-unfolding total
-within_total n [] h = tt
-within_total n (x ∷ xs) h = (omega arith, within_total n xs (omega arith))
-
--- the numbers that must not wrap
-pub record Bounded (c : BodyController) : Type 0 where
-  pub ticks : c.ticks ≤ 16777216
-  pub counts : AllWithin 16777216 (count_list c.counts)
-
-meets-follows : (c : BodyController) (call : Call) (reply : Reply) (d : BodyController) → Bounded c → Meets c call reply d → Follows c (step (seconds_of c.choices.tick.k) (drive_of c) call) reply d
-meets-follows c (sight i) reply d b x = rw (x.2, x.3, x.1) (sight_follows c i b.ticks b.counts)
-meets-follows c (plan i) reply d b x = rw (x.2, x.3, x.1) (plan_follows c i (seconds_of c.choices.tick.k))
-meets-follows c (steer i) reply d b x = rw (x.2, x.3, x.1) (steer_follows c i (seconds_of c.choices.tick.k))
-meets-follows c (finish i) reply d b x = rw (x.2, x.3, x.1) (finish_follows c i (seconds_of c.choices.tick.k))
-meets-follows c reset reply d b x = rw (x.2, x.3, x.1) (reset_follows c (seconds_of c.choices.tick.k))
+meets-follows : (c : BodyController) (call : Call) (reply : Reply) (d : BodyController) → Meets c call reply d → Follows c (step c.context.start (drive_of c) call) reply d
+meets-follows c (sight i) reply d x = rw (x.2, x.3, x.1) (sight_follows c i)
+meets-follows c (plan i) reply d x = rw (x.2, x.3, x.1) (plan_follows c i c.context.start)
+meets-follows c (steer i) reply d x = rw (x.2, x.3, x.1) (steer_follows c i c.context.start)
+meets-follows c (finish i) reply d x = rw (x.2, x.3, x.1) (finish_follows c i c.context.start)
+meets-follows c reset reply d x = rw (x.2, x.3, x.1) (reset_follows c c.context.start)
 
 -- ---- any list
 
-watched_of : (k : ℕ) (h : List Entry) (c : BodyController) → Followed k h c → Watched k (ticks_in h) (since h) (holding k h) (drive_of c)
-watched_of k h c f = rw f.state (drive_watched k h f.replies)
+watched_of : (start : Start) (h : List Entry) (c : BodyController) → Followed start h c → Watched start.tick_length (ticks_in h) (since h) (holding start h) (drive_of c)
+watched_of start h c f = rw f.state (drive_watched start h f.replies)
 
-bounded_of : (k : ℕ) (h : List Entry) (c : BodyController) → Followed k h c → Bounded c
-unfolding drive_of
-bounded_of k h c f =
-    let w = watched_of k h c f in
-    record { ticks = w.limit; counts = within_total 16777216 (count_list c.counts) (rw (← w.sum) w.limit) }
-
-followed : (k : ℕ) (h : List Entry) (c : BodyController) → Made k h c → Followed k h c
+followed : (start : Start) (h : List Entry) (c : BodyController) → Made start h c → Followed start h c
 unfolding Made calls_of replies_of driven driven_replies
-followed k [] c m = begun k c m
-followed k (e ∷ h) d m = go (followed k h m.0 m.1)
+followed start [] c m = rw m (begun start)
+followed start (e ∷ h) d m = go (followed start h m.0 m.1)
   where
-    go : Followed k h m.0 → Followed k (e ∷ h) d
+    go : Followed start h m.0 → Followed start (e ∷ h) d
     go f =
-        let t : Follows m.0 (step (seconds_of k) (driven k (calls_of h)) e.call) e.reply d =
-        subst (λ (s : DriveState). Follows m.0 (step (seconds_of k) s e.call) e.reply d) f.state
-        (subst (λ (x : ℕ). Follows m.0 (step (seconds_of x) (drive_of m.0) e.call) e.reply d) f.tick (meets-follows m.0 e.call e.reply d (bounded_of k h m.0 f) m.2)) in
+        let t : Follows m.0 (step start (driven start (calls_of h)) e.call) e.reply d =
+        subst (λ (s : DriveState). Follows m.0 (step start s e.call) e.reply d) f.state
+        (subst (λ (x : Start). Follows m.0 (step x (drive_of m.0) e.call) e.reply d) f.chosen (meets-follows m.0 e.call e.reply d m.2)) in
         record {
-          least = f.least;
-          most = f.most;
-          tick = ap (λ (x : Choices). x.tick.k) t.choices ∙ f.tick;
+          chosen = t.start ∙ f.chosen;
           state = t.state;
           replies = rw (t.reply, f.replies);
         }
@@ -141,48 +107,50 @@ tracking-held : (k m : ℕ) (holds : Bool) (s : DriveState) (t : Float) → s.ga
 tracking-held k m true s t e v = v
 tracking-held k m false s t e v = absurd (rw e at v.1)
 
+-- whether the gate takes this sighting
+abbrev taking : BodyController → SightInput → Bool
+taking c i = takes (ContextSight.seen c.context (sighting_of i.vision_update i.vision_pose_meas) i.predicted_state).action
+
 -- a sight call that is accepted answers the gate's outcome
-accepted-outcome : (c : BodyController) (i : SightInput) → is_tick (sight_reply (sight_of c i).answer) ≡ true → took (sight_reply (sight_of c i).answer) ≡ takes (seen_by c i).action
-unfolding sight_of sighted sight_answer Controller.refused
-accepted-outcome c i = go (is_sight c.turn) (ltb c.ticks tick_limit)
+accepted-outcome : (c : BodyController) (i : SightInput) → is_tick (sight_reply (sight_of c i).answer) ≡ true → took (sight_reply (sight_of c i).answer) ≡ taking c i
+accepted-outcome c i = go (not (is_sight c.turn)) (not (ltb c.tally.ticks tick_limit))
   where
     go : (s t : Bool)
-        → is_tick (sight_reply (cond s (cond t (sighted c i) (Controller.refused Why.TickLimit c)) (Controller.refused Why.OutOfTurn c)).answer) ≡ true
-        → took (sight_reply (cond s (cond t (sighted c i) (Controller.refused Why.TickLimit c)) (Controller.refused Why.OutOfTurn c)).answer) ≡ takes (seen_by c i).action
-    go true true e = refl
-    go true false e = absurd (true≢false (sym e))
-    go false t e = absurd (true≢false (sym e))
+        → is_tick (sight_reply (cond s (Controller.refused Why.OutOfTurn c) (cond t (Controller.refused Why.TickLimit c) (sighted c i))).answer) ≡ true
+        → took (sight_reply (cond s (Controller.refused Why.OutOfTurn c) (cond t (Controller.refused Why.TickLimit c) (sighted c i))).answer) ≡ taking c i
+    go false false e = refl
+    go false true e = absurd (true≢false (sym e))
+    go true t e = absurd (true≢false (sym e))
 
 -- the widening gate
-widened : (k : ℕ) (h : List Entry) (c : BodyController) → Followed k h c → (D : ℕ) (t : Float) (i : SightInput)
+widened : (start : Start) (h : List Entry) (c : BodyController) → IsStart start → Followed start h c → (D : ℕ) (t : Float) (i : SightInput)
     → 1 ≤ D
     → D ≤ 64
-    → 2048 * D ≤ since h * k
+    → 2048 * D ≤ since h * start.tick_length
     → c.context.vision.gate ≡ Tracking t
     → i.vision_update ≡ true
     → T (le (distance i.vision_pose_meas i.predicted_state) (of_int binary32 (pos D)))
-    → takes (seen_by c i).action ≡ true
-unfolding drive_of ContextSight.seen
-widened k h c f D t i l g r e seen near =
-    rw (seen, f.tick)
-    (held_widens k (since h) D c.context.vision f.most l g r (tracking-held k (since h) (holding k h) (drive_of c) t e (watched_of k h c f).vision) i.vision_pose_meas i.predicted_state near)
+    → taking c i ≡ true
+unfolding ContextSight.seen
+widened start h c valid f D t i l g r e seen near =
+    rw (seen, f.chosen)
+    (held_widens start (since h) D c.context.vision (tick_length_of_start start valid).1 l g r (tracking-held start.tick_length (since h) (holding start h) (drive_of c) t e (watched_of start h c f).vision) i.vision_pose_meas i.predicted_state near)
 
 pub follows_plain_drive : FollowsPlainDrive
-unfolding drive_of
-follows_plain_drive k h c m =
-    let f = followed k h c m in
-    let w = watched_of k h c f in
+follows_plain_drive start h c valid m =
+    let f = followed start h c m in
+    let w = watched_of start h c f in
     record {
-      tick_length = f.tick;
+      chosen = f.chosen;
       ticks = w.ticks;
-      sum = w.sum;
+      counts = w.counted;
       state = f.state;
       mark = ap (λ (s : DriveState). active s.clock) f.state;
       replies = f.replies;
-      cameras = cameras k (since h) (holding k h) (drive_of c) f.most w.vision;
+      cameras = cameras start.tick_length (since h) (holding start h) (drive_of c) (tick_length_of_start start valid).1 w.vision;
       widens = λ D t i reply d l g r e seen near x tick.
           let same : reply ≡ sight_reply (sight_of c i).answer = x.2 ∙ ap (λ (y : Called Sighted). sight_reply y.answer) x.1 in
-          ap took same ∙ accepted-outcome c i (ap is_tick (sym same) ∙ tick) ∙ widened k h c f D t i l g r e seen near;
+          ap took same ∙ accepted-outcome c i (ap is_tick (sym same) ∙ tick) ∙ widened start h c valid f D t i l g r e seen near;
     }
 
 -- ---- every list runs
@@ -211,10 +179,10 @@ meets c (finish i) = (finish_of c i, refl, refl, refl)
 meets c reset = (reset_of c, refl, refl, refl)
 
 pub every_list_runs : EveryListRuns
-unfolding calls_of Made new_of tick_length_of
-every_list_runs k [] l g = ([], started (record { tick = record { k = k } }), refl, rw (le-ltb k 1 l, lt-ltb k 65 (omega arith)))
-every_list_runs k (call ∷ calls) l g =
-    let r = every_list_runs k calls l g in
+unfolding calls_of Made
+every_list_runs start [] valid = ([], started start, refl, refl)
+every_list_runs start (call ∷ calls) valid =
+    let r = every_list_runs start calls valid in
     (record { call = call; reply = reply_of r.1 call } ∷ r.0, next_of r.1 call, ap (λ (cs : List Call). call ∷ cs) r.2, (r.1, r.3, meets r.1 call))
 
 -- ---- nothing wraps
@@ -223,12 +191,13 @@ gathered_few : (g : VisionGateState) → Small g → gathered_in g ≤ 19
 gathered_few (Seeding s) h = omega (arith, h)
 gathered_few (Tracking t) h = lit≤ tt
 
+within_sum : (n : ℕ) (ns : List ℕ) → sum ns ≤ n → All (λ (x : ℕ). x ≤ n) ns
+within_sum n ns h i d l = let each = get_or-le-sum_by (λ (x : ℕ). x) ns i d l in omega (arith, each, h)
+
 pub nothing_wraps : NothingWraps
-unfolding drive_of
-nothing_wraps k h c m =
-    let f = followed k h c m in
-    let b = bounded_of k h c f in
-    (b.ticks, b.counts, gathered_few c.context.vision.gate (watched_of k h c f).small)
+nothing_wraps start h c valid m =
+    let w = watched_of start h c (followed start h c m) in
+    (w.limit, within_sum 16777216 (count_list c.tally.counts) (rw (← w.counted) w.limit), gathered_few c.context.vision.gate w.small)
 
 -- ---- active means seen
 
@@ -255,14 +224,14 @@ module _ (h : List Entry) (held resetting : Bool) (m : ℕ) (before : (n : ℕ) 
   one_more (refused x) n e l = before n (both (not resetting) held e).1 l
 
 -- a sighting that is held was taken in one of the latest ticks, one more than came since
-held_taken : (k : ℕ) (h : List Entry) (n : ℕ) → holding k h ≡ true → since h < n → took_within n h ≡ true
+held_taken : (start : Start) (h : List Entry) (n : ℕ) → holding start h ≡ true → since h < n → took_within n h ≡ true
 unfolding holding since took_within
-held_taken k [] n e l = absurd (true≢false (sym e))
-held_taken k (x ∷ h) n e l = one_more h (holding k h) (resets_after k (calls_of h) x.call) (since h) (held_taken k h) x.reply n e l
+held_taken start [] n e l = absurd (true≢false (sym e))
+held_taken start (x ∷ h) n e l = one_more h (holding start h) (resets_after start (calls_of h) x.call) (since h) (held_taken start h) x.reply n e l
 
 pub active_means_seen : ActiveMeansSeen
-active_means_seen k h c m e =
-    let f = followed k h c m in
-    let marks = both (holding k h) (leb (since h * k) 2048) (sym (follows_plain_drive k h c m).cameras ∙ e) in
-    let few : since h ≤ 2048 / k = (le-div_iff_mul-le f.least).1 (leb-true (since h * k) 2048 marks.1) in
-    held_taken k h (2048 / k + 1) marks.0 (omega (arith, few))
+active_means_seen start h c valid m e =
+    let k = start.tick_length in
+    let marks = both (holding start h) (leb (since h * k) 2048) (sym (follows_plain_drive start h c valid m).cameras ∙ e) in
+    let few : since h ≤ 2048 / k = (le-div_iff_mul-le (tick_length_of_start start valid).0).1 (leb-true (since h * k) 2048 marks.1) in
+    held_taken start h (2048 / k + 1) marks.0 (omega (arith, few))

@@ -1,12 +1,11 @@
 -- What a call can do to the plain drive's gate, clock, ticks and counts: a tick moves them, a reset clears gate and clock, and any other call
--- leaves them. Assumes nothing.
+-- leaves them.
 use mathlib.Core.Path.{◌≡◌, refl}
 use mathlib.Core.Logic.{◌⊎◌, inl, inr}
 use Prim.Native.Nat.{ℕ, ◌<◌}
 use mathlib.Core.Bool.{Bool, true, false, cond, not, ◌&&◌, ◌||◌, and-not_self}
 use borrow.Author.Tests.{ltb-true}
 use lib.Dec.{ltb}
-use lib.Ieee.{Float}
 use Rattle.linear.specs.declared.Vector4f.{Vector4f}
 use Rattle.linear.specs.declared.Vector6f.{Vector6f}
 use Rattle.params.specs.Params.{vision_clock_start_s}
@@ -15,20 +14,20 @@ use Rattle.vision.specs.Seeding.{fresh_seeding}
 use Rattle.tick.specs.declared.command.ManeuverCommand.{ManeuverCommand}
 use Rattle.std.specs.Prelude.{Option, Result, Ok, Err}
 use Rattle.tick.specs.declared.refusal.Refusal.{Refusal}
-use Rattle.control_context.specs.declared.maneuvers.answer.PlanAnswer.{PlanAnswer}
+use Rattle.control_context.specs.declared.maneuvers.PlanAnswer.{PlanAnswer}
 use Rattle.tick.specs.Command.{command_from}
-use Rattle.control_context.specs.declared.divergence.TrackingDivergenceState.{TrackingDivergenceState}
-use Rattle.control_context.specs.declared.divergence.TrackingDivergenceState.TheVariants.{Normal, Recovering}
-use Rattle.control_context.specs.declared.recovery.RecoveryAnswer.{RecoveryAnswer}
+use Rattle.control_context.specs.declared.recovery.TrackingDivergenceState.{TrackingDivergenceState}
+use Rattle.control_context.specs.declared.recovery.TrackingDivergenceState.TheVariants.{Normal, Recovering}
 use Rattle.control_context.specs.Divergence.{is_recovering}
 use Rattle.control_context.specs.ErrorLimits.{at_rest}
-use Rattle.control_context.specs.Recovery.{tracking_error_exceeded, recovery}
+use Rattle.control_context.specs.Recovery.{RecoveryAnswer, tracking_error_exceeded, recovery}
+use Rattle.tick.specs.declared.start.Start.{Start}
 use Rattle.tick.specs.declared.inputs.SightInput.{SightInput}
 use Rattle.tick.specs.declared.inputs.PlanInput.{PlanInput}
 use Rattle.tick.specs.declared.inputs.SteerInput.{SteerInput}
 use Rattle.tick.specs.declared.inputs.FinishInput.{FinishInput}
 use Rattle.plain_drive.specs.Calls.{Call, sight, plan, steer, finish, reset, accepted, refused, is_tick, took, is_reset}
-use Rattle.plain_drive.specs.PlainDrive.{DriveTurn, to_sight, to_plan, to_steer, to_finish, DriveState, Step, turned_away, seen, on_sight, decided_on, closed, on_command, on_plan, on_reset, cleared, anew, unplanned, followed, judged_state, turned_to, steered_by, on_steer, on_finish, step}
+use Rattle.plain_drive.specs.PlainDrive.{DriveTurn, to_sight, to_plan, to_steer, to_finish, DriveState, Step, turned_away, seen, on_sight, decided_on, closed, on_command, on_plan, on_reset, cleared, plans_anew, unplanned, followed, judged_state, steered_by, on_steer, on_finish, step}
 
 -- the call resets: by itself, or by the recovery that it ends
 abbrev pub resets : DriveState → Call → Step → Bool
@@ -50,14 +49,14 @@ pub record NoTick (s : DriveState) (call : Call) (to : Step) : Type 0 where
   pub vision : VisionFrom cleared s to.state
 
 -- a tick
-pub record Ticked (dt : Float) (s : DriveState) (call : Call) (to : Step) : Type 0 where
+pub record Ticked (start : Start) (s : DriveState) (call : Call) (to : Step) : Type 0 where
   pub input : SightInput
   pub room : s.ticks < 16777216
-  pub moved : to ≡ seen dt s input
+  pub moved : to ≡ seen start s input
   pub reset : resets s call to ≡ false
 
-abbrev pub Moves : Float → DriveState → Call → Step → Type 0
-Moves dt s call to = Ticked dt s call to ⊎ NoTick s call to
+abbrev pub Moves : Start → DriveState → Call → Step → Type 0
+Moves start s call to = Ticked start s call to ⊎ NoTick s call to
 
 -- ---- recovery
 
@@ -104,12 +103,11 @@ module _ (s : DriveState) (call : Call) where
 
 -- ---- each call
 
-module _ (dt : Float) (s : DriveState) where
-  sight-moves : (i : SightInput) (turn : DriveTurn) → Moves dt s (sight i) (on_sight turn dt s i)
-  unfolding seen
+module _ (start : Start) (s : DriveState) where
+  sight-moves : (i : SightInput) (turn : DriveTurn) → Moves start s (sight i) (on_sight turn start s i)
   sight-moves i to_sight = go (ltb s.ticks 16777216) refl
     where
-      go : (few : Bool) → ltb s.ticks 16777216 ≡ few → Moves dt s (sight i) (cond few (seen dt s i) (turned_away 3 s))
+      go : (few : Bool) → ltb s.ticks 16777216 ≡ few → Moves start s (sight i) (cond few (seen start s i) (turned_away 3 s))
       go true f = inl (record { input = i; room = ltb-true s.ticks 16777216 f; moved = refl; reset = and-not_self (is_recovering s.recovering) })
       go false f = inr (away s (sight i) 3 refl)
   sight-moves i to_plan = inr (away s (sight i) 2 refl)
@@ -117,7 +115,6 @@ module _ (dt : Float) (s : DriveState) where
   sight-moves i to_finish = inr (away s (sight i) 2 refl)
 
 plan_stands : (s : DriveState) (i : PlanInput) (turn : DriveTurn) → NoTick s (plan i) (on_plan turn s i)
-unfolding decided_on
 plan_stands s i to_sight = away s (plan i) 2 refl
 plan_stands s i to_plan = command (command_from i.mode i.words)
   where
@@ -144,18 +141,16 @@ module _ (s : DriveState) (i : SteerInput) (a : PlanAnswer) (cmd : ManeuverComma
 
   -- recovery clears where it ends
   steered_stands : NoTick s (steer i) (steered_by s a cmd i)
-  unfolding steered_by
   steered_stands = go judged.reset (recovery_ends s.recovering (judged_state tracked.held) s.estimate i.wheel_vel_meas)
     where
-      go : (b : Bool) → ending s.recovering judged ≡ b → NoTick s (steer i) (record { reply = accepted; state = cond b (cleared tracked) (turned_to judged tracked) })
+      go : (b : Bool) → ending s.recovering judged ≡ b → NoTick s (steer i) (record { reply = accepted; state = cond b (cleared tracked) (record tracked { recovering = judged.state }) })
       go true e = record { tick = refl; taken = refl; ticks = refl; counts = refl; cleared = true; reset = left_true (is_recovering s.recovering) _ e; vision = (refl, refl) }
       go false e = record { tick = refl; taken = refl; ticks = refl; counts = refl; cleared = false; reset = e; vision = (refl, refl) }
 
 steer_stands : (s : DriveState) (i : SteerInput) (turn : DriveTurn) → NoTick s (steer i) (on_steer turn s i)
-unfolding unplanned
 steer_stands s i to_sight = away s (steer i) 2 refl
 steer_stands s i to_plan = away s (steer i) 2 refl
-steer_stands s i (to_steer a cmd) = go (i.planner_failed && anew a)
+steer_stands s i (to_steer a cmd) = go (i.planner_failed && plans_anew a)
   where
     go : (failed : Bool) → NoTick s (steer i) (cond failed (unplanned s) (steered_by s a cmd i))
     go true = still s (steer i) (unplanned s) refl refl refl (refl, refl, refl, refl, refl)
@@ -169,13 +164,11 @@ finish_stands s i (to_steer a cmd) = away s (finish i) 2 refl
 finish_stands s i to_finish = still s (finish i) (on_finish to_finish s) refl refl refl (refl, refl, refl, refl, refl)
 
 reset_stands : (s : DriveState) → NoTick s reset (on_reset s)
-unfolding on_reset
 reset_stands s = record { tick = refl; taken = refl; ticks = refl; counts = refl; cleared = true; reset = refl; vision = (refl, refl) }
 
-pub moves : (dt : Float) (s : DriveState) (call : Call) → Moves dt s call (step dt s call)
-unfolding step
-moves dt s (sight i) = sight-moves dt s i s.turn
-moves dt s (plan i) = inr (plan_stands s i s.turn)
-moves dt s (steer i) = inr (steer_stands s i s.turn)
-moves dt s (finish i) = inr (finish_stands s i s.turn)
-moves dt s reset = inr (reset_stands s)
+pub moves : (start : Start) (s : DriveState) (call : Call) → Moves start s call (step start s call)
+moves start s (sight i) = sight-moves start s i s.turn
+moves start s (plan i) = inr (plan_stands s i s.turn)
+moves start s (steer i) = inr (steer_stands s i s.turn)
+moves start s (finish i) = inr (finish_stands s i s.turn)
+moves start s reset = inr (reset_stands s)

@@ -1,25 +1,27 @@
--- What holds after every list of the calls sight, plan, steer, finish and reset from a new controller, refused ones included. The
--- numbers are read off the list and its answers. The contract of `every_list_of_calls` names the statements.
-use Rattle.std.specs.Prelude.{ℕ, ◌+◌, ◌-◌, ◌*◌, ◌/◌, ◌≤◌, ◌≡◌, Bool, true, false, cond, not, ◌&&◌, ◌||◌, List, [], ◌∷◌, T, leb, pos, Float, Result, Ok, Err}
+-- What holds after every list of the calls sight, plan, steer, finish and reset from a new controller, refused ones included (docs/RULES.md,
+-- 'Every list of calls'). The numbers are read off the list and its answers. The contract of `every_list_of_calls` names the statements.
+use Rattle.std.specs.Prelude.{ℕ, ◌+◌, ◌-◌, ◌*◌, ◌/◌, ◌≤◌, ◌≡◌, Bool, true, false, if◌then◌else◌, not, ◌&&◌, ◌||◌, List, [], ◌∷◌, All, sum, T, nat_le, pos, Float, Result, Ok, Err}
 use Rattle.std.specs.Float.{binary32}
 use Rattle.std.specs.Float.Ieee.{le, of_int}
+use Rattle.linear.specs.declared.Vector3f.{Vector3f}
+use Rattle.tick.specs.declared.inputs.SightInput.{SightInput}
+use Rattle.tick.specs.declared.refusal.Refusal.{Refusal}
+use Rattle.tick.specs.declared.start.Start.{Start}
+use Rattle.tick.specs.Refusal.{refusal_number}
+use Rattle.tick.specs.Start.{IsStart}
+use Rattle.tick.specs.Tally.{count_list}
 use Rattle.vision.specs.declared.gate.VisionGateState.{VisionGateState}
 use Rattle.vision.specs.declared.gate.VisionGateState.TheVariants.{Seeding, Tracking}
 use Rattle.vision.specs.Gate.{distance}
 use Rattle.vision.specs.Vision.{active}
-use Rattle.tick.specs.declared.refusal.Refusal.{Refusal}
-use Rattle.tick.specs.Refusal.{refusal_number}
-use Rattle.linear.specs.declared.Vector3f.{Vector3f}
-use Rattle.control_context.specs.declared.maneuvers.answer.PlanAnswer.{PlanAnswer}
-use Rattle.body_controller.specs.declared.answers.Sighted.{Sighted}
-use Rattle.body_controller.specs.declared.answers.Finished.{Finished}
+use Rattle.control_context.specs.declared.maneuvers.PlanAnswer.{PlanAnswer}
 use Rattle.body_controller.specs.declared.BodyController.{BodyController}
 use Rattle.body_controller.specs.declared.Called.{Called}
 use Rattle.body_controller.specs.declared.Turn.{Turn}
 use Rattle.body_controller.specs.declared.Turn.TheVariants as Turns
-use Rattle.tick.specs.declared.inputs.SightInput.{SightInput}
-use Rattle.tick.specs.Counts.{count_list}
-use Rattle.body_controller.specs.Controller.{new_of, reset_of}
+use Rattle.body_controller.specs.declared.sight.Sighted.{Sighted}
+use Rattle.body_controller.specs.declared.finish.Finished.{Finished}
+use Rattle.body_controller.specs.Controller.{started, new_of, reset_of}
 use Rattle.body_controller.specs.Sight.{sight_of}
 use Rattle.body_controller.specs.Plan.{plan_of}
 use Rattle.body_controller.specs.Steer.{steer_of}
@@ -59,10 +61,10 @@ pub record Entry : Type 0 where
   pub call : Call
   pub reply : Reply
 
--- calls and their replies, the latest first, lead from a new controller of tick length k/4096 s to c
-unfoldable pub Made : ℕ → List Entry → BodyController → Type 0
-Made k [] c = new_of k ≡ Ok c
-Made k (e ∷ h) d = (c : BodyController) × Made k h c × Meets c e.call e.reply d
+-- calls and their replies, the latest first, lead from the new controller of this start to c
+unfoldable pub Made : Start → List Entry → BodyController → Type 0
+Made start [] c = c ≡ started start
+Made start (e ∷ h) d = (c : BodyController) × Made start h c × Meets c e.call e.reply d
 
 unfoldable pub calls_of : List Entry → List Call
 calls_of [] = []
@@ -77,22 +79,22 @@ replies_of (e ∷ h) = e.reply ∷ replies_of h
 -- the ticks: accepted sight calls
 unfoldable pub ticks_in : List Entry → ℕ
 ticks_in [] = 0
-ticks_in (e ∷ h) = cond (is_tick e.reply) (ticks_in h + 1) (ticks_in h)
+ticks_in (e ∷ h) = if is_tick e.reply then ticks_in h + 1 else ticks_in h
 
--- m: the ticks after the last that answered C, T or J; no reset alters it
+-- m: the ticks after the last that took a sighting; no reset alters it
 unfoldable pub since : List Entry → ℕ
 since [] = 0
-since (e ∷ h) = cond (took e.reply) 0 (cond (is_tick e.reply) (since h + 1) (since h))
+since (e ∷ h) = if took e.reply then 0 else if is_tick e.reply then since h + 1 else since h
 
 -- a sighting was taken, and no reset by call or recovery came since
-unfoldable pub holding : ℕ → List Entry → Bool
-holding k [] = false
-holding k (e ∷ h) = took e.reply || (not (resets_after k (calls_of h) e.call) && holding k h)
+unfoldable pub holding : Start → List Entry → Bool
+holding start [] = false
+holding start (e ∷ h) = took e.reply || (not (resets_after start (calls_of h) e.call) && holding start h)
 
 -- one of the latest n ticks took a sighting
 unfoldable pub took_within : ℕ → List Entry → Bool
 took_within n [] = false
-took_within n (e ∷ h) = cond (is_tick e.reply) (leb 1 n && (took e.reply || took_within (n - 1) h)) (took_within n h)
+took_within n (e ∷ h) = if is_tick e.reply then nat_le 1 n && (took e.reply || took_within (n - 1) h) else took_within n h
 
 -- ---- read off the controller
 
@@ -103,7 +105,7 @@ drive_turn (Turns.Steer p) = to_steer p.answer p.cmd
 drive_turn (Turns.Finish s) = to_finish
 
 -- what the plain drive keeps too
-unfoldable pub drive_of : BodyController → DriveState
+abbrev pub drive_of : BodyController → DriveState
 drive_of c = record {
   gate = c.context.vision.gate;
   clock = c.context.vision.time_since_vision_update_s;
@@ -113,50 +115,40 @@ drive_of c = record {
   mode = c.context.prev_mode;
   estimate = c.context.state_estimate;
   turn = drive_turn c.turn;
-  ticks = c.ticks;
-  counts = count_list c.counts;
+  ticks = c.tally.ticks;
+  counts = count_list c.tally.counts;
 }
 
 -- whether the cameras are active
 abbrev pub is_active : BodyController → Bool
 is_active c = active c.context.vision.time_since_vision_update_s
 
--- the sum of a list
-unfoldable pub total : List ℕ → ℕ
-total [] = 0
-total (n ∷ ns) = n + total ns
-
 -- how many sightings a seeding has gathered
 abbrev pub gathered_in : VisionGateState → ℕ
 gathered_in (Seeding s) = s.n
 gathered_in (Tracking t) = 0
 
--- every number of a list is at most n
-abbrev pub AllWithin : ℕ → List ℕ → Type 0
-AllWithin n [] = Unit {0}
-AllWithin n (x ∷ xs) = (x ≤ n) × AllWithin n xs
-
 -- ---- the controller follows the plain drive
 
-pub record Holds (k : ℕ) (h : List Entry) (c : BodyController) : Type 0 where
-  -- the tick length is k/4096 s still
-  pub tick_length : c.choices.tick.k ≡ k
+pub record Holds (start : Start) (h : List Entry) (c : BodyController) : Type 0 where
+  -- the start is the controller's still
+  pub chosen : c.context.start ≡ start
   -- ticks are the accepted sight calls
-  pub ticks : c.ticks ≡ ticks_in h
+  pub ticks : c.tally.ticks ≡ ticks_in h
   -- and the sum of the eight counts
-  pub sum : c.ticks ≡ total (count_list c.counts)
+  pub counts : c.tally.ticks ≡ sum (count_list c.tally.counts)
   -- the whole state is the plain drive's, and so is the active mark
-  pub state : drive_of c ≡ driven k (calls_of h)
-  pub mark : is_active c ≡ active (driven k (calls_of h)).clock
+  pub state : drive_of c ≡ driven start (calls_of h)
+  pub mark : is_active c ≡ active (driven start (calls_of h)).clock
   -- every outcome, plan's answer and refusal is the plain drive's, in order
-  pub replies : replies_of h ≡ driven_replies k (calls_of h)
+  pub replies : replies_of h ≡ driven_replies start (calls_of h)
   -- the cameras are active exactly when a sighting was taken, no reset came since, and m·k ≤ 2048
-  pub cameras : is_active c ≡ holding k h && leb (since h * k) 2048
+  pub cameras : is_active c ≡ holding start h && nat_le (since h * start.tick_length) 2048
   -- with the gate tracking and m·k ≥ 2048·D, a sight call that is accepted takes any sighting computed at most D metres off
   pub widens : (D : ℕ) (t : Float) (i : SightInput) (reply : Reply) (d : BodyController)
       → 1 ≤ D
       → D ≤ 64
-      → 2048 * D ≤ since h * k
+      → 2048 * D ≤ since h * start.tick_length
       → c.context.vision.gate ≡ Tracking t
       → i.vision_update ≡ true
       → T (le (distance i.vision_pose_meas i.predicted_state) (of_int binary32 (pos D)))
@@ -165,20 +157,25 @@ pub record Holds (k : ℕ) (h : List Entry) (c : BodyController) : Type 0 where
       → took reply ≡ true
 
 abbrev pub FollowsPlainDrive : Type 0
-FollowsPlainDrive = (k : ℕ) (h : List Entry) (c : BodyController) → Made k h c → Holds k h c
+FollowsPlainDrive = (start : Start) (h : List Entry) (c : BodyController) → IsStart start → Made start h c → Holds start h c
 
 -- ---- its companions
 
--- every list of calls has a run, at each k from 1 to 64
+-- `new` makes the new controller of a start with k, of each k from 1 to 64
+abbrev pub NewIsStarted : Type 0
+NewIsStarted = (k : ℕ) → 1 ≤ k → k ≤ 64 → (start : Start) × IsStart start × (start.tick_length ≡ k) × (new_of k ≡ Ok (started start))
+
+-- every list of calls has a run
 abbrev pub EveryListRuns : Type 0
-EveryListRuns = (k : ℕ) (calls : List Call) → 1 ≤ k → k ≤ 64 → (h : List Entry) × (c : BodyController) × (calls_of h ≡ calls) × Made k h c
+EveryListRuns = (start : Start) (calls : List Call) → IsStart start → (h : List Entry) × (c : BodyController) × (calls_of h ≡ calls) × Made start h c
 
 -- no count ever wraps: after any list each is at most the tick limit, far below 2^32, and a seeding holds fewer than 20 sightings
 abbrev pub NothingWraps : Type 0
-NothingWraps = (k : ℕ) (h : List Entry) (c : BodyController) → Made k h c
-    → (c.ticks ≤ 16777216) × AllWithin 16777216 (count_list c.counts) × (gathered_in c.context.vision.gate ≤ 19)
+NothingWraps = (start : Start) (h : List Entry) (c : BodyController) → IsStart start → Made start h c
+    → (c.tally.ticks ≤ 16777216) × All (λ (n : ℕ). n ≤ 16777216) (count_list c.tally.counts) × (gathered_in c.context.vision.gate ≤ 19)
 
--- for those who read the shelf: after any list of calls, the cameras are active only if a sighting was taken in the last tick or in one of
+-- after any list of calls the cameras are active only if a sighting was taken in the last tick or in one of
 -- the 2048/k ticks before it
 abbrev pub ActiveMeansSeen : Type 0
-ActiveMeansSeen = (k : ℕ) (h : List Entry) (c : BodyController) → Made k h c → is_active c ≡ true → took_within (2048 / k + 1) h ≡ true
+ActiveMeansSeen = (start : Start) (h : List Entry) (c : BodyController) → IsStart start → Made start h c
+    → is_active c ≡ true → took_within (2048 / start.tick_length + 1) h ≡ true

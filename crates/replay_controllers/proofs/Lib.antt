@@ -1,3 +1,2 @@
 -- Laws and lemmas.
-mod Filled
 mod Loops

@@ -1,6 +1,6 @@
--- The words of an answer against the words wanted. Assumes nothing.
+-- The words of an answer against the words wanted.
 use Rattle.std.specs.Prelude.{ℕ, zero, suc, ◌+◌, Bool, true, ◌&&◌, List, eqb, get_or}
-use Rattle.tick_block.specs.Word.{word_at}
+use Rattle.tick_block.specs.Words.{word_at}
 
 -- whether the first n words are those of the call from `at` on
 unfoldable pub agrees_up_to : List ℕ → List ℕ → ℕ → ℕ → Bool

@@ -1,8 +1,8 @@
 -- Definitions that the contracts of `replay_controllers` cite.
-pub mod Memory
+pub mod Words
 pub mod Kinds
 pub mod Pids
 pub mod Brake
 pub mod Lag
-pub mod Lists
+pub mod Subject
 pub mod Compare

@@ -1,39 +1,33 @@
 // The list of the active brake.
 ghost use Rattle.std.specs.Prelude.{◌≡◌};
-ghost use Rattle.replay_controllers.specs.Brake.{answer, step};
+ghost use Rattle.replay_controllers.specs.Brake.{answer, stepped};
 
-use crate::call::Call;
-use crate::remembered::{put_axes, with_memories};
-use controllers::active_brake::{ActiveBrakeController, BrakeAnswer};
+use crate::words::words_of;
+use controllers::active_brake::ActiveBrakeController;
 use linear::{Vector4f, ZEROS_4};
 use tick_block::floats::floats_at;
 use tick_block::words::word_at;
 
 // A call has its kind and the wheel speeds, and then what is compared. The last kind is reset, whose
 // currents are wanted as 0.
-// The kinds of call are the numbers that oracle/README.md gives them: an enum would serve this match alone.
 #[tactic(auto, unfolding(crate::specs::Brake::answer, linear::specs::Vector::zeros4))]
-fn answer(b: ActiveBrakeController, call: &[u8]) -> BrakeAnswer
-    ensures { result ≡ answer b call.now }
+fn answer(brake: &mut ActiveBrakeController, call: &[u8]) -> Vector4f
+    ensures { let a = answer brake.old call.now in (result ≡ a.currents) × (brake.new ≡ a.controller) }
 {
     match word_at(call, 0) {
-        0 => b.compute(Vector4f::from(floats_at(call, 1))),
-        _ => BrakeAnswer {
-            currents: ZEROS_4,
-            controller: b.reset(),
-        },
+        0 => brake.compute(Vector4f::from(floats_at(call, 1))),
+        _ => {
+            brake.reset();
+            ZEROS_4
+        }
     }
 }
 
-// A header has k and the number of calls. The words after the call, unless k is refused.
-#[tactic(auto, unfolding(crate::specs::Brake::step))]
-pub(crate) fn step(call: Call<'_>) -> Option<[u32; 12]>
-    ensures { result ≡ step call.entry.header.now call.entry.bytes.now call.entry.words }
+// The words after a call.
+#[tactic(auto, unfolding(crate::specs::Brake::stepped))]
+pub(crate) fn step(brake: &mut ActiveBrakeController, call: &[u8]) -> [u32; 12]
+    ensures { let told = stepped brake.old call.now in (result ≡ told.words) × (brake.new ≡ told.controller) }
 {
-    let mut b = ActiveBrakeController::new(word_at(call.header, 0)).ok()?;
-    let mut words = call.words;
-    b.pid = with_memories(b.pid, &words);
-    let a = answer(b, call.bytes);
-    put_axes(&mut words, a.currents.into(), a.controller.pid);
-    Some(words)
+    let currents = answer(brake, call);
+    words_of(currents.into(), brake.memory())
 }

@@ -1,7 +1,6 @@
 // How a list is laid out: the number of runs; each run a header and calls.
 ghost use Rattle.std.specs.Prelude.{◌≤◌};
 
-// An enum: a trait is five impls, or one over N that asks for N ≤ 4, as then does all that calls it.
 #[derive(Clone, Copy)]
 pub enum ListOf {
     Pid1,
@@ -24,7 +23,6 @@ pub struct Layout {
     pub compared: u8,
 }
 
-// The bound stands in each contract: a `Model` with an invariant would be ten lines for three clauses.
 fn laid_out(header: usize, call: usize, calls: usize, kinds: u32, compared: u8) -> Layout
     requires { (header ≤ 35) × (call ≤ 35) }
     ensures { (result.header ≤ 140) × (result.call ≤ 140) }
@@ -38,7 +36,7 @@ fn laid_out(header: usize, call: usize, calls: usize, kinds: u32, compared: u8) 
     }
 }
 
-// A PID list's numbers, in words, grow with its axes. Four at most, as in pids.rt.
+// A PID list's numbers, in words, grow with its axes.
 fn of_axes(n: u8) -> Layout
     requires { n ≤ 4 }
     ensures { (result.header ≤ 140) × (result.call ≤ 140) }

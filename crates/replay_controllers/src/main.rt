@@ -1,21 +1,17 @@
-// Runs the lists of standard input, one behind the other, against the crates: each holds runs of calls
-// with the answers of the Rust itself, and what it remembers after each call. Answers are compared bit
-// for bit; NaN has one word. Prints a line for each list, and which calls were the first mismatches.
+//! Runs the lists of standard input, one behind the other, against the crates: each holds runs of calls
+//! with the answers of the Rust itself, and what it remembers after each call. Answers are compared bit
+//! for bit; NaN has one word. Prints a line for each list, and which calls were the first mismatches.
 #![tactic(auto)]
 
 mod layout; // layout.rt: how a list is laid out
 mod input; // input.rt: a record, as it is read
-mod call; // call.rt: a call, with what it is made of
-mod remembered; // remembered.rt: the words that an answer is compared by, and the memory in them
+mod words; // words.rt: the words that an answer is compared by
 mod pids; // pids.rt: the lists of the PID controllers
 mod brake; // brake.rt: the list of the active brake
 mod lag; // lag.rt: the list of the encoder lag
+mod subject; // subject.rt: what a run drives
 mod compare; // compare.rt: the words of an answer against those wanted
 
-ghost use Rattle.std.specs.Prelude.{◌≡◌};
-ghost use Rattle.replay_controllers.specs.Lists.{step_of};
-
-use call::Call;
 use compare::{agrees, show};
 use full_read::read_full;
 use harness::report::write_line;
@@ -23,6 +19,7 @@ use harness::tally::Tally;
 use input::read_record;
 use layout::{Layout, ListOf, layout_of};
 use std::io;
+use subject::Subject;
 use tick_block::words::word_at;
 
 fn cut_short(tally: Tally) -> Tally {
@@ -51,57 +48,29 @@ fn judge(rt: &HostRuntime, tally: Tally, right: bool) -> io::Result<Tally> {
     Ok(tally.count(1, 1))
 }
 
-// The words after one call of a list; none where its header makes no controller or lag.
-#[tactic(auto, unfolding(crate::specs::Lists::step_of))]
-fn step(list: ListOf, call: Call<'_>) -> Option<[u32; 12]>
-    ensures { result ≡ step_of list call.entry.header.now call.entry.bytes.now call.entry.words }
-{
-    match list {
-        ListOf::Pid1 => Some(pids::step::<1>(call)),
-        ListOf::Pid3 => Some(pids::step::<3>(call)),
-        ListOf::Pid4 => Some(pids::step::<4>(call)),
-        ListOf::Brake => brake::step(call),
-        ListOf::Lag => lag::step(call),
-    }
-}
-
-// Reads one call, and makes it. The words stay where it has no answer.
-// rt and list go from run to run_call as they are: a struct of the two would be no plainer.
+// Reads one call, and makes it.
 fn run_call(
     rt: &HostRuntime,
     list: ListOf,
-    header: &[u8],
-    words: &mut [u32; 12],
+    subject: &mut Option<Subject>,
     tally: Tally,
 ) -> io::Result<Tally> {
     let layout = layout_of(list);
-    let Some(record) = read_record(rt, layout.call)? else {
+    let Some(call) = read_record(rt, layout.call)? else {
         return Ok(cut_short(tally));
     };
-    let answer = step(
-        list,
-        Call {
-            header,
-            bytes: &record,
-            words: *words,
-        },
-    );
-    *words = answer.unwrap_or(*words);
-    judge(rt, tally, is_right(layout, answer, &record))
+    let answer = match subject {
+        Some(subject) => Some(subject.step(&call)),
+        None => None,
+    };
+    judge(rt, tally, is_right(layout, answer, &call))
 }
 
-// The calls of a run, as many as its header says, unless the input ends before. Nothing is remembered
-// at first, whose words are zeros.
-fn run_calls(
-    rt: &HostRuntime,
-    list: ListOf,
-    header: &[u8],
-    calls: u32,
-    mut tally: Tally,
-) -> io::Result<Tally> {
-    let mut words = [0; 12];
-    for _ in 0..calls {
-        tally = run_call(rt, list, header, &mut words, tally)?;
+// The calls of a run, as many as its header says, unless the input ends before.
+fn run_calls(rt: &HostRuntime, list: ListOf, header: &[u8], mut tally: Tally) -> io::Result<Tally> {
+    let mut subject = Subject::of(list, header);
+    for _ in 0..word_at(header, layout_of(list).calls) {
+        tally = run_call(rt, list, &mut subject, tally)?;
         if tally.cut_short {
             break;
         }
@@ -111,9 +80,8 @@ fn run_calls(
 
 // Reads a run's header, and runs its calls.
 fn run_run(rt: &HostRuntime, list: ListOf, tally: Tally) -> io::Result<Tally> {
-    let layout = layout_of(list);
-    match read_record(rt, layout.header)? {
-        Some(header) => run_calls(rt, list, &header, word_at(&header, layout.calls), tally),
+    match read_record(rt, layout_of(list).header)? {
+        Some(header) => run_calls(rt, list, &header, tally),
         None => Ok(cut_short(tally)),
     }
 }

@@ -1,15 +1,20 @@
 // The lists of the PID controllers of one, three and four axes.
 ghost use Rattle.std.specs.Prelude.{◌≡◌, ◌<◌, ◌≤◌};
-ghost use Rattle.replay_controllers.specs.Pids.{gains_at, thresh_at, limits_at, axis_at, axes_at, answer, step};
+ghost use Rattle.replay_controllers.specs.Pids.{gains_at, thresh_at, limits_at, settings_at, pid_of, answer, stepped};
 
-use crate::call::Call;
-use crate::remembered::{put_axes, with_memories};
-use controllers::pid::PidController;
-use controllers::pid::axes::{PidAxes, PidAxesAnswer};
+use crate::words::words_of;
+use controllers::pid::{PidMemory, PidSettings};
 use params::PidGains;
 use std::array;
 use tick_block::floats::{float_at, floats_at};
 use tick_block::words::word_at;
+
+// The controller of a run.
+#[derive(Clone, Copy)]
+pub(crate) struct Pid<const N: usize> {
+    settings: [PidSettings; N],
+    memory: PidMemory<N>,
+}
 
 // A header has the number of calls; the gains, axis by axis; whether there is a threshold, and one
 // for each axis; whether there are limits, the low ones and the high ones.
@@ -27,7 +32,6 @@ fn gains_at(header: &[u8], i: u8) -> PidGains
     }
 }
 
-// header, n and i are what the definitions of specs/Pids.antt take: a struct of them is no plainer.
 #[tactic(auto, unfolding(crate::specs::Pids::thresh_at))]
 fn thresh_at(header: &[u8], n: u8, i: u8) -> Option<f32>
     ensures { result ≡ thresh_at header.now n i }
@@ -47,60 +51,69 @@ fn limits_at(header: &[u8], n: u8, i: u8) -> Option<(f32, f32)>
     (word_at(header, at) == 1).then_some((lo, hi))
 }
 
-// Axis i of n, with nothing remembered.
-#[tactic(auto, unfolding(crate::specs::Pids::axis_at))]
-fn axis_at(header: &[u8], n: u8, i: u8) -> PidController
-    ensures { result ≡ axis_at header.now n i }
+// The settings of axis i of n.
+#[tactic(auto, unfolding(crate::specs::Pids::settings_at))]
+fn settings_at(header: &[u8], n: u8, i: u8) -> PidSettings
+    ensures { result ≡ settings_at header.now n i }
 {
-    let gain = gains_at(header, i);
-    let thresh = thresh_at(header, n, i);
-    PidController::new(gain, thresh, limits_at(header, n, i))
+    PidSettings {
+        gain: gains_at(header, i),
+        anti_jitter_thresh: thresh_at(header, n, i),
+        output_limits: limits_at(header, n, i),
+    }
 }
 
-// Four axes at most, here and below: a type that says so would be made and unmade for the proof alone.
-fn axes_at<const N: usize>(header: &[u8]) -> PidAxes<N>
-    requires { N ≤ 4 }
-    ensures { result ≡ axes_at header.now }
-{
-    PidAxes {
-        axes: array::from_fn(
-            |i: usize| -> PidController
+// Four axes at most, here and below: so many fit a record.
+impl<const N: usize> Pid<N> {
+    // The controller that a header describes, with nothing remembered.
+    pub(crate) fn of(header: &[u8]) -> Pid<N>
+        requires { N ≤ 4 }
+        ensures { result ≡ pid_of header.now }
+    {
+        let settings = array::from_fn(
+            |i: usize| -> PidSettings
                 requires { (N ≤ 4) × (i < 4) }
-                ensures { result ≡ axis_at header.entry.now N i }
-            { axis_at(header, N as u8, i as u8) },
-        ),
+                ensures { result ≡ settings_at header.entry.now N i }
+            { settings_at(header, N as u8, i as u8) },
+        );
+        Pid {
+            settings,
+            memory: PidMemory::new(),
+        }
     }
-}
 
-// A call has its kind, setpoint, process variable, derivative and dt, and then what is compared. The
-// last kind is reset, whose output is wanted as 0.
-// The kinds of call are the numbers that oracle/README.md gives them: an enum would serve this match alone.
-#[tactic(auto, unfolding(crate::specs::Pids::answer))]
-fn answer<const N: usize>(c: PidAxes<N>, call: &[u8]) -> PidAxesAnswer<N>
-    requires { N ≤ 4 }
-    ensures { result ≡ answer c.entry call.now }
-{
-    let n = N as u8;
-    let setpoint = floats_at(call, 1);
-    let process = floats_at(call, 1 + n);
-    let dt = float_at(call, 1 + 3 * N);
-    match word_at(call, 0) {
-        0 => c.calculate(setpoint, process, dt),
-        1 => c.calculate_with_derivative(setpoint, process, floats_at(call, 1 + 2 * n), dt),
-        _ => PidAxesAnswer {
-            output: [0.0; N],
-            controller: c.reset(),
-        },
+    // A call has its kind, setpoint, process variable, derivative and dt, and then what is compared.
+    // The last kind is reset, whose output is wanted as 0.
+    #[tactic(auto, unfolding(crate::specs::Pids::answer))]
+    fn answer(&mut self, call: &[u8]) -> [f32; N]
+        requires { N ≤ 4 }
+        ensures { let a = answer self.old call.now in
+            (result ≡ a.output) × (self.new ≡ record self.old { memory = a.memory }) }
+    {
+        let setpoint = floats_at(call, 1);
+        let process = floats_at(call, 1 + N);
+        let derivative = floats_at(call, 1 + 2 * N);
+        let dt = float_at(call, 1 + 3 * N);
+        match word_at(call, 0) {
+            0 => self.memory.calculate(&self.settings, setpoint, process, dt),
+            1 => self
+                .memory
+                .calculate_with_derivative(&self.settings, setpoint, process, derivative, dt),
+            _ => {
+                self.memory.reset();
+                [0.0; N]
+            }
+        }
     }
-}
 
-#[tactic(auto, unfolding(crate::specs::Pids::step))]
-pub(crate) fn step<const N: usize>(call: Call<'_>) -> [u32; 12]
-    requires { N ≤ 4 }
-    ensures { result ≡ step N call.entry.header.now call.entry.bytes.now call.entry.words }
-{
-    let mut words = call.words;
-    let a = answer::<N>(with_memories(axes_at(call.header), &words), call.bytes);
-    put_axes(&mut words, a.output, a.controller);
-    words
+    // The words after a call.
+    #[tactic(auto, unfolding(crate::specs::Pids::stepped))]
+    pub(crate) fn step(&mut self, call: &[u8]) -> [u32; 12]
+        requires { N ≤ 4 }
+        ensures { let told = stepped self.old call.now in
+            (result ≡ told.words) × (self.new ≡ told.controller) }
+    {
+        let output = self.answer(call);
+        words_of(output, self.memory)
+    }
 }

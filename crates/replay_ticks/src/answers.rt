@@ -1,10 +1,11 @@
-// The words of the four answers, which are zeros before.
+//! The words of the four answers, which are zeros before.
 use crate::put::{put, put_two};
-use body_controller::answers::{Finished, Measurement, Sighted};
-use control_context::maneuvers::answer::PlanAnswer;
+use body_controller::finish::Finished;
+use body_controller::sight::{Measurement, Sighted};
+use control_context::maneuvers::PlanAnswer;
 use ieee754::bits::to_bits;
 use linear::Vector3f;
-use tick::Outputs;
+use tick::outputs::Outputs;
 
 fn put_measurement(words: &mut [u32; 96], m: Measurement) {
     put::<3>(words, 3, m.vision_pose.into());

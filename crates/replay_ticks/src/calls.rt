@@ -1,12 +1,10 @@
-// A tick's four calls, with the words of their answers, up to the first call that is turned away, whose
-// refusal is word 2.
+//! A tick's four calls, with the words of their answers, up to the first call that is turned away, whose refusal is
+//! word 2.
 use crate::answers::{put_finish, put_plan, put_sight, put_steer};
 use body_controller::{BodyController, Called};
 use tick::refusal::Refusal;
-use tick_block::sight::{plan_input, sight_input};
-use tick_block::steer::{finish_input, steer_input};
+use tick_block::inputs::{finish_input, plan_input, sight_input, steer_input};
 
-// A struct of c, block and words would be taken apart and made again in each call: no plainer.
 // A block that sight turns away is refused.
 pub(crate) fn sight(
     c: BodyController,
@@ -27,7 +25,7 @@ fn plan(c: BodyController, block: &[u8], words: &mut [u32; 96]) -> BodyControlle
             steer(controller, block, words)
         }
         Err(refusal) => {
-            words[2] = refusal as u32;
+            words[2] = refusal.number() as u32;
             words[18] = 4;
             controller
         }
@@ -42,7 +40,7 @@ fn steer(c: BodyController, block: &[u8], words: &mut [u32; 96]) -> BodyControll
             finish(controller, block, words)
         }
         Err(refusal) => {
-            words[2] = refusal as u32;
+            words[2] = refusal.number() as u32;
             controller
         }
     }

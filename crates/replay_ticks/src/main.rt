@@ -1,6 +1,6 @@
-// Program `tick_words`: tick blocks from standard input; for each, 96 words with all that its tick
-// answers and leaves, to standard output. A refused block ends its pass, and the next block begins
-// another. oracle/README.md lists the words.
+//! Program `replay_ticks`: tick blocks from standard input; for each, 96 words with all that its tick answers and leaves,
+//! to standard output. A refused block ends its pass, and the next block begins another. compare/FORMATS.md lists the
+//! words.
 #![tactic(auto)]
 
 mod answers; // answers.rt: the words of the four answers
@@ -37,9 +37,7 @@ fn write(rt: &HostRuntime, words: &[u32; 96], n: usize) -> io::Result<bool> {
 fn main(rt: HostRuntime) -> io::Result<()> {
     let mut pass = None;
     for _ in 0..TURNS {
-        // An array, since memory is fixed: its first n bytes are what was read.
         let mut block = [0; 512];
-        // An array, as each word has its place in oracle/README.md: a struct with methods would be no plainer.
         let mut words = [0; 96];
         let n = read_full(&mut rt.stdin(), &mut block)?;
         pass = run_block(pass, &block[..n], &mut words);

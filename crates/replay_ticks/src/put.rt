@@ -1,4 +1,4 @@
-// Floats among the 96 words, by their bits.
+//! Floats among the 96 words, by their bits.
 ghost use Rattle.std.specs.Prelude.{◌+◌, ◌≤◌};
 
 use ieee754::bits::to_bits;

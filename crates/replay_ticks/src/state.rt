@@ -1,8 +1,8 @@
-// The words of what a tick leaves in the controller.
+//! The words of what a tick leaves in the controller.
 use crate::answers::put_outputs;
 use crate::put::{put, put_two};
 use body_controller::BodyController;
-use control_context::ControlContext;
+use control_context::context::ControlContext;
 use control_context::memory::Memory;
 use ieee754::bits::to_bits;
 use tick::command::{GlobalPosition, HeadingLine, ManeuverCommand};
@@ -13,13 +13,15 @@ fn put_vision(words: &mut [u32; 96], vision: Vision) {
     words[55] = to_bits(vision.time_since_vision_update_s);
     match vision.gate {
         VisionGateState::Seeding(s) => {
-            words[49] = s.n;
-            put::<2>(words, 50, s.pos_sum.into());
-            put::<2>(words, 52, s.pos_sq_sum.into());
+            words[49] = s.n();
+            put::<2>(words, 50, s.pos_sum().into());
+            put::<2>(words, 52, s.pos_sq_sum().into());
         }
-        VisionGateState::Tracking(t) => {
+        VisionGateState::Tracking {
+            time_since_last_valid_s,
+        } => {
             words[48] = 1;
-            words[54] = to_bits(t);
+            words[54] = to_bits(time_since_last_valid_s);
         }
     }
 }
@@ -32,7 +34,6 @@ fn put_held(words: &mut [u32; 96], memory: Memory) {
     }
 }
 
-// The fields by their names, here and below: a `From` for arrays would list the same ones.
 fn put_position(words: &mut [u32; 96], p: GlobalPosition) {
     words[68] = 2;
     put::<3>(words, 69, p.target_pose.into());
@@ -81,22 +82,23 @@ fn put_previous(words: &mut [u32; 96], memory: Memory) {
     }
 }
 
-fn put_context(words: &mut [u32; 96], k: ControlContext) {
+fn put_context(words: &mut [u32; 96], k: &ControlContext) {
     put_vision(words, k.vision);
     put_held(words, k.memory);
     put_previous(words, k.memory);
     words[82] = k.prev_mode;
     put_two(words, 83, k.state_estimate.pose, k.state_estimate.twist);
-    put_two(
+    let [x, y, z] = k.pose_pid.axes;
+    put(words, 89, [x.prev_error, y.prev_error, z.prev_error]);
+    put(
         words,
-        89,
-        k.pose_pid.prev_error,
-        k.pose_pid.integrated_error,
+        92,
+        [x.integrated_error, y.integrated_error, z.integrated_error],
     );
 }
 
 // A tick that was finished has put its outputs and the wheels' mark.
-pub(crate) fn put_state(words: &mut [u32; 96], c: BodyController) {
+pub(crate) fn put_state(words: &mut [u32; 96], c: &BodyController) {
     let context = c.context();
     words[56] = c.vision_active() as u32;
     words[57] = c.tracking_divergence_recovery_active() as u32;

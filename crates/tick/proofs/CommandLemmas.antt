@@ -1,4 +1,4 @@
--- The fields of a command are its words in order. Assumes nothing.
+-- The fields of a command are its words in order.
 use mathlib.Core.Path.{◌≡◌, refl}
 use mathlib.Core.List.{List, [], ◌∷◌}
 use lib.Ieee.{Float}

@@ -9,7 +9,6 @@ use Rattle.tick.specs.declared.refusal.Refusal.TheVariants as Why
 use Rattle.tick.specs.TickLength.{is_tick_length, tick_length_of}
 
 pub made_is : (k t : ℕ) → tick_length_of k ≡ Ok t → (is_tick_length t ≡ true) × (t ≡ k)
-unfolding tick_length_of
 made_is k t h = go (is_tick_length k) refl h
   where
     go : (b : Bool) → is_tick_length k ≡ b → cond {A = Result ℕ Refusal} b (Ok k) (Err Why.TickLength) ≡ Ok t → (is_tick_length t ≡ true) × (t ≡ k)

@@ -6,20 +6,16 @@ use Rattle.tick.specs.TickLength.{tick_length_of, micros_of}
 
 -- k 0 and 65: 1
 pub zero_refused : number_of (tick_length_of 0) ≡ 1
-unfolding tick_length_of
 zero_refused = refl
 
 pub sixty_five_refused : number_of (tick_length_of 65) ≡ 1
-unfolding tick_length_of
 sixty_five_refused = refl
 
 -- k 1 and 64 accepted
 pub one_made : tick_length_of 1 ≡ Ok 1
-unfolding tick_length_of
 one_made = refl
 
 pub sixty_four_made : tick_length_of 64 ≡ Ok 64
-unfolding tick_length_of
 sixty_four_made = refl
 
 -- k 4: the lag's dt is 976 µs

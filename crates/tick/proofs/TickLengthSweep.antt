@@ -1,4 +1,4 @@
--- A test that is computed over every k from 1 to 64 passes at each tick length (`at_tick_length`). Assumes nothing.
+-- A test that is computed over every k from 1 to 64 passes at each tick length (`at_tick_length`).
 use mathlib.Core.Path.{◌≡◌, refl, subst}
 use mathlib.Core.Bool.{Bool, true, false, ◌&&◌}
 use Prim.Native.Nat.{ℕ, zero, suc, ◌≤◌}

@@ -1,5 +1,5 @@
--- Document 01, 'Records': the commands, the words that they are read from, and their fields. Assumes nothing.
-use Rattle.std.specs.Prelude.{ℕ, Bool, cond, List, [], ◌∷◌, eqb, ltb, Float, Result, Ok, Err}
+-- The commands, the words that they are read from, and their fields (docs/RULES.md, 'Commands and modes').
+use Rattle.std.specs.Prelude.{ℕ, if◌then◌else◌, List, [], ◌∷◌, ◌==◌, Float, Result, Ok, Err}
 use Rattle.tick.specs.declared.refusal.Refusal.{Refusal}
 use Rattle.tick.specs.declared.refusal.Refusal.TheVariants as Why
 use Rattle.tick.specs.Mode.{is_mode}
@@ -49,20 +49,22 @@ line_from w = record {
 -- the command of a mode number and its words
 unfoldable pub command_from : ℕ → List Float → Result ManeuverCommand Refusal
 command_from mode w =
-    cond (eqb mode 0) (Ok Cmd.Off)
-    (cond (eqb mode 1) (Ok Cmd.Brake)
-    (cond (eqb mode 2) (Ok (Cmd.GlobalPosition (position_from w)))
-    (cond (eqb mode 3) (Ok (Cmd.HeadingLine (line_from w))) (Err Why.Mode))))
+    if mode == 0 then Ok Cmd.Off
+    else (if mode == 1 then Ok Cmd.Brake
+    else (if mode == 2 then Ok (Cmd.GlobalPosition (position_from w))
+    else (if mode == 3 then Ok (Cmd.HeadingLine (line_from w)) else Err Why.Mode)))
 
--- 'When a call is turned away': mode not 0..3, 4
+-- the refusal's number for a mode number, 0 where it is none
 abbrev pub refusal_of : ℕ → ℕ
-refusal_of mode = cond (is_mode mode) 0 4
+refusal_of mode = if is_mode mode then 0 else 4
 
 -- ---- fields
 
--- the 7 floats of a position, and the 13 of a line, in document 01's order
+-- the 7 floats of a position, and the 13 of a line, in the words' order
 abbrev pub position_fields : GlobalPosition → List Float
-position_fields p = p.target_pose.x ∷ p.target_pose.y ∷ p.target_pose.z ∷ p.max_linear_vel ∷ p.max_angular_vel ∷ p.max_linear_acc ∷ p.max_angular_acc ∷ []
+position_fields p =
+    p.target_pose.x ∷ p.target_pose.y ∷ p.target_pose.z ∷ p.max_linear_vel ∷ p.max_angular_vel
+    ∷ p.max_linear_acc ∷ p.max_angular_acc ∷ []
 
 abbrev pub line_fields : HeadingLine → List Float
 line_fields l =

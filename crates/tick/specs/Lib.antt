@@ -1,5 +1,6 @@
 -- Definitions that the contracts of `tick` cite.
 pub mod Refusal
+pub mod RefusalText
 pub mod TickLength
 pub mod TickLengthLaws
 pub mod Start

@@ -1,5 +1,4 @@
--- Document 01, 'Gate', outcomes and letters: quiet Q, gathered G, complete C, reseeded S, taken T, jump J, first refusal F, refused R.
--- Assumes nothing.
+-- The outcomes of the gate (docs/RULES.md, 'The gate'): quiet Q, gathered G, complete C, reseeded S, taken T, jump J, first refusal F, refused R.
 use Rattle.std.specs.Prelude.{ℕ, Bool, true, false}
 use Rattle.tick.specs.declared.action.GateAction.{GateAction}
 use Rattle.tick.specs.declared.action.GateAction.TheVariants.{NoVision, Accumulate, SeedComplete, SeedReset, Accept, AcceptJump, FirstReject, Reject}

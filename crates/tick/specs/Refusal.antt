@@ -1,9 +1,8 @@
--- Document 01, 'When a call is turned away': the numbers of the refusals. Assumes nothing.
+-- The numbers of the refusals (docs/RULES.md, 'Refusals').
 use Rattle.std.specs.Prelude.{ℕ, Result, Ok, Err}
 use Rattle.tick.specs.declared.refusal.Refusal.{Refusal}
 use Rattle.tick.specs.declared.refusal.Refusal.TheVariants as Why
 
--- document 01's number
 abbrev pub refusal_number : Refusal → ℕ
 refusal_number Why.TickLength = 1
 refusal_number Why.OutOfTurn = 2
@@ -18,7 +17,7 @@ refusal_number Why.Order = 10
 refusal_number Why.EstimatorFailed = 11
 refusal_number Why.PlannerFailed = 12
 
--- document 01's number for an answer, and 0 for one that is no refusal
+-- an answer's number: its refusal's, or 0 where it is none
 abbrev pub number_of : {A : Type 0} → Result A Refusal → ℕ
 number_of (Ok a) = 0
 number_of (Err r) = refusal_number r

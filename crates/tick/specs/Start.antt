@@ -10,7 +10,7 @@ abbrev pub IsStart : Start → Type 0
 IsStart s = IsTickLength s.tick_length
 
 -- the answer to a k
-unfoldable pub start_of : ℕ → Result Start Refusal
+abbrev pub start_of : ℕ → Result Start Refusal
 start_of k = if is_tick_length k then Ok (record { tick_length = k }) else Err Why.TickLength
 
 -- the time of a tick, in seconds

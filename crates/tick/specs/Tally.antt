@@ -6,10 +6,10 @@ use Rattle.tick.specs.declared.tally.Counts.{Counts}
 use Rattle.tick.specs.declared.tally.Totals.{Totals}
 
 -- nothing counted
-unfoldable pub no_counts : Counts
+abbrev pub no_counts : Counts
 no_counts = record { quiet = 0; gathered = 0; complete = 0; reseeded = 0; taken = 0; jump = 0; first = 0; refused = 0 }
 
-unfoldable pub no_totals : Totals
+abbrev pub no_totals : Totals
 no_totals = record { ticks = 0; counts = no_counts }
 
 -- the counts in the order of the outcomes
@@ -17,7 +17,7 @@ abbrev pub count_list : Counts → List ℕ
 count_list n = n.quiet ∷ n.gathered ∷ n.complete ∷ n.reseeded ∷ n.taken ∷ n.jump ∷ n.first ∷ n.refused ∷ []
 
 -- one more of an outcome
-unfoldable pub counts_with : Counts → GateAction → Counts
+abbrev pub counts_with : Counts → GateAction → Counts
 counts_with n NoVision = record n { quiet = n.quiet + 1 }
 counts_with n Accumulate = record n { gathered = n.gathered + 1 }
 counts_with n SeedComplete = record n { complete = n.complete + 1 }
@@ -28,7 +28,7 @@ counts_with n FirstReject = record n { first = n.first + 1 }
 counts_with n Reject = record n { refused = n.refused + 1 }
 
 -- one tick more, with its outcome
-unfoldable pub counted : Totals → GateAction → Totals
+abbrev pub counted : Totals → GateAction → Totals
 counted t a = record { ticks = t.ticks + 1; counts = counts_with t.counts a }
 
 -- 2^24

@@ -1,5 +1,5 @@
 -- The tick length, k/4096 s with k from 1 to 64 (docs/RULES.md, 'The tick length'). A TickLength is its number k here.
-use Rattle.std.specs.Prelude.{ℕ, ◌*◌, ◌/◌, ◌≤◌, Bool, false, if◌then◌else◌, ◌&&◌, nat_le, pos, Float, Result, Ok, Err}
+use Rattle.std.specs.Prelude.{ℕ, ◌*◌, ◌/◌, ◌≤◌, Bool, if◌then◌else◌, ◌&&◌, nat_le, pos, Float, Result, Ok, Err}
 use Rattle.std.specs.Float.{binary32}
 use Rattle.std.specs.Float.Ieee.{div, of_int, of_bits}
 use Rattle.tick.specs.declared.refusal.Refusal.{Refusal}
@@ -18,7 +18,7 @@ abbrev pub refusal_of : ℕ → ℕ
 refusal_of k = if is_tick_length k then 0 else 1
 
 -- the answer to a k
-unfoldable pub tick_length_of : ℕ → Result ℕ Refusal
+abbrev pub tick_length_of : ℕ → Result ℕ Refusal
 tick_length_of k = if is_tick_length k then Ok k else Err Why.TickLength
 
 -- k/4096 s as a float: k, divided by 4096.0

@@ -1,31 +1,30 @@
-// The eight outcomes of the gate, and what document 01 says of each.
-
+//! The eight outcomes of the gate (docs/RULES.md, 'The gate').
 ghost use Rattle.std.specs.Prelude.{◌≡◌};
 ghost use Rattle.tick.specs.Outcome.{letter_of, takes, overwrites};
 
-// Document 01's outcomes, in its order.
+/// What the gate did with a tick's sighting, under the firmware's names. Each has a letter.
 #[derive(Clone, Copy, Debug, PartialEq, Eq)]
 pub enum GateAction {
-    // quiet, Q
+    /// Quiet, Q.
     NoVision,
-    // gathered, G
+    /// Gathered, G.
     Accumulate,
-    // complete, C
+    /// Complete, C.
     SeedComplete,
-    // reseeded, S
+    /// Reseeded, S.
     SeedReset,
-    // taken, T
+    /// Taken, T.
     Accept,
-    // jump, J
+    /// Jump, J.
     AcceptJump,
-    // first refusal, F
+    /// First refusal, F.
     FirstReject,
-    // refused, R
+    /// Refused, R.
     Reject,
 }
 
 impl GateAction {
-    // Document 01's letter. Not `as`: the enum's own numbers are those of oracle/README.md.
+    /// The outcome's letter, in ASCII.
     pub fn letter(self) -> u8
         ensures { result ≡ letter_of self }
     {
@@ -41,7 +40,7 @@ impl GateAction {
         }
     }
 
-    // Whether the sighting is taken.
+    /// Whether the sighting is taken.
     pub fn takes(self) -> bool
         ensures { result ≡ takes self }
     {
@@ -51,7 +50,7 @@ impl GateAction {
         )
     }
 
-    // Whether the prediction is overwritten, and trajectory, previous command and PID memory dropped.
+    /// Whether the prediction is overwritten, and trajectory, previous command and PID memory dropped.
     pub fn overwrites(self) -> bool
         ensures { result ≡ overwrites self }
     {

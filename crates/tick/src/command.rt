@@ -1,5 +1,4 @@
-// Commands and their words.
-
+//! Commands, and the words that they are read from (docs/RULES.md, 'Commands and modes').
 ghost use Rattle.std.specs.Prelude.{◌≡◌};
 ghost use Rattle.tick.specs.Refusal.{number_of};
 ghost use Rattle.tick.specs.Command.{position_from, line_from, command_from, refusal_of};
@@ -7,6 +6,7 @@ ghost use Rattle.tick.specs.Command.{position_from, line_from, command_from, ref
 use crate::refusal::Refusal;
 use linear::Vector3f;
 
+/// Drive to a pose. Speeds are in m/s and rad/s, accelerations in m/s² and rad/s².
 #[derive(Clone, Copy, PartialEq)]
 pub struct GlobalPosition {
     pub target_pose: Vector3f,
@@ -16,6 +16,7 @@ pub struct GlobalPosition {
     pub max_angular_acc: f32,
 }
 
+/// Follow a line at a heading. Angles are in rad, lengths in m; "colinear" is along the line, "perp" across it.
 #[derive(Clone, Copy, PartialEq)]
 pub struct HeadingLine {
     pub global_theta: f32,
@@ -33,6 +34,7 @@ pub struct HeadingLine {
     pub colinear_start_thresh: f32,
 }
 
+/// What the robot is to do.
 #[derive(Clone, Copy, PartialEq)]
 pub enum ManeuverCommand {
     Off,
@@ -41,7 +43,7 @@ pub enum ManeuverCommand {
     HeadingLine(HeadingLine),
 }
 
-// A block's command words, 24-36, as floats.
+/// A block's command words, 24 to 36, as floats.
 pub type CommandWords = [f32; 13];
 
 impl From<CommandWords> for GlobalPosition {
@@ -87,8 +89,8 @@ impl From<CommandWords> for HeadingLine {
 }
 
 impl ManeuverCommand {
-    // The command of a mode number, or refusal 4. Words that its mode does not use are not read.
-    // A number and no enum, as document 01 has it: any that is no mode is answered too, by 4.
+    /// The command of a mode number, or `Refusal::Mode` where it is none. Words that its mode does not use are not
+    /// read.
     #[tactic(auto, unfolding(crate::specs::Command::command_from))]
     pub fn from_words(mode: u32, w: CommandWords) -> Result<ManeuverCommand, Refusal>
         ensures { (result ≡ command_from mode w) × (number_of result ≡ refusal_of mode) }

@@ -1,5 +1,4 @@
-// What is proved of commands and their words: a function that does nothing, for its clauses.
-
+//! What is proved of commands and their words: a function that does nothing, for its clauses.
 ghost use Rattle.tick.specs.CommandLaws.{PositionIsItsWords, LineIsItsWords};
 
 /// The fields of a command are its words in order.

@@ -11,7 +11,6 @@ pub fn is_mode(mode: u32) -> bool
 }
 
 /// How many of the 13 command words the mode uses, from the first on, or `None` where the number is no mode.
-#[tactic(auto, unfolding(crate::specs::Mode::words_used))]
 pub fn words_used(mode: u32) -> Option<u8>
     ensures { result ≡ words_used mode }
 {

@@ -1,8 +1,8 @@
 //! What a controller puts out in a tick.
 use linear::{Vector3f, Vector4f, ZEROS_3, ZEROS_4};
 
-/// `BodyController`'s vectors whose names end in `_out` and `_out_fric_comp`: body in m/s and rad/s (accelerations per
-/// second), wheels in rad/s and Nm.
+/// `BodyController`'s fields of these names: body twist (m/s, rad/s) and acceleration (m/s², rad/s²), the acceleration
+/// with friction made up for, wheel speeds (rad/s) and wheel torques.
 #[derive(Clone, Copy)]
 pub struct Outputs {
     pub body_twist_out: Vector3f,
@@ -12,7 +12,7 @@ pub struct Outputs {
     pub wheel_torque_out: Vector4f,
 }
 
-/// The outputs of a new or reset controller. A constant, since a derived `Default` would be a call.
+/// The outputs of a new or reset controller.
 pub const NO_OUTPUTS: Outputs = Outputs {
     body_twist_out: ZEROS_3,
     body_accel_out: ZEROS_3,

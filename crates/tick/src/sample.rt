@@ -1,9 +1,10 @@
-// A sample of a trajectory.
+//! A sample of a trajectory (docs/RULES.md, 'Samples').
 use linear::{Vector3f, Vector6f};
 
-// A sample, a term of document 01: what a trajectory gives for one tick.
+/// What a trajectory gives for one tick.
 #[derive(Clone, Copy, PartialEq)]
 pub struct Sample {
+    /// Pose and twist.
     pub state: Vector6f,
     pub accel: Vector3f,
 }

@@ -1,4 +1,4 @@
-//! What is chosen once, when a controller starts. "Start" is our own word for it: the firmware passes these choices one by one.
+//! What is chosen once, when a controller starts. The word is ours: the firmware passes these choices one by one.
 ghost use Rattle.std.specs.Prelude.{◌≡◌};
 ghost use Rattle.tick.specs.Refusal.{number_of};
 ghost use Rattle.tick.specs.TickLength.{refusal_of};
@@ -15,7 +15,6 @@ pub struct Start {
 
 impl Start {
     /// A start with ticks of k/4096 s, or `Refusal::TickLength` where k is not from 1 to 64.
-    #[tactic(auto, unfolding(crate::specs::Start::start_of, crate::specs::TickLength::tick_length_of))]
     pub fn new(k: u32) -> Result<Start, Refusal>
         ensures { (result ≡ start_of k) × (number_of result ≡ refusal_of k) }
     {

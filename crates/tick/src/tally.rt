@@ -50,7 +50,6 @@ impl Model for Tally {
 
 impl Tally {
     /// Nothing counted yet.
-    #[tactic(auto, unfolding(crate::specs::Tally::no_totals, crate::specs::Tally::no_counts))]
     pub fn new() -> Tally
         ensures { result ≡ no_totals }
     {
@@ -79,11 +78,10 @@ impl Tally {
     }
 
     /// Counts one tick and its outcome. A full tally stays as it is.
-    #[tactic(auto, unfolding(crate::specs::Tally::counted, crate::specs::Tally::counts_with))]
     pub fn count(&mut self, action: GateAction)
         ensures { self.new ≡ (if is_full self.old then self.old else counted self.old action) }
     {
-        if self.totals.ticks >= TICK_LIMIT {
+        if self.is_full() {
             return;
         }
         self.totals.ticks += 1;

@@ -28,7 +28,6 @@ impl Model for TickLength {
 
 impl TickLength {
     /// The tick length of k/4096 s, or `Refusal::TickLength` where k is not from 1 to 64.
-    #[tactic(auto, unfolding(crate::specs::TickLength::tick_length_of))]
     pub fn new(k: u32) -> Result<TickLength, Refusal>
         ensures { (result ≡ tick_length_of k) × (number_of result ≡ refusal_of k) }
     {
@@ -52,7 +51,7 @@ impl TickLength {
         ensures value { result ≡ seconds_of self }
         ensures valid { IsTickLength self }
     {
-        self.k as f32 / 4096.0
+        f32::from(self.k) / 4096.0
     }
 
     /// In whole microseconds, rounded down.
@@ -61,6 +60,6 @@ impl TickLength {
         ensures value { result ≡ micros_of self }
         ensures valid { IsTickLength self }
     {
-        15625 * (self.k as u32) / 64
+        15625 * u32::from(self.k) / 64
     }
 }

@@ -1,4 +1,4 @@
--- Document 01's starred cases of the active mark, from the law of the clock, and closed cases of the gate by computation. Assumes nothing.
+-- Worked values of the active mark, from the law of the clock, and closed cases of the gate by computation.
 use mathlib.Core.Path.{◌≡◌, refl}
 use Prim.Native.Nat.{ℕ, zero, suc}
 use mathlib.Core.Bool.{true, false}
@@ -14,9 +14,9 @@ use Rattle.tick.specs.TickLength.{seconds_of}
 use Rattle.tick.specs.declared.action.GateAction.TheVariants.{Accumulate, SeedComplete, SeedReset, AcceptJump, FirstReject, Reject}
 use Rattle.vision.specs.declared.gate.VisionGateState.{VisionGateState}
 use Rattle.vision.specs.declared.gate.VisionGateState.TheVariants.{Seeding, Tracking}
-use Rattle.vision.specs.declared.gate.Judgement.{Judgement}
-use Rattle.vision.specs.Seeding.{fresh_seeding, gathered, deviation, steady}
-use Rattle.vision.specs.Gate.{seeding_judged, distance, radius, tracking_judged, sighting_judged, quiet, judged}
+use Rattle.vision.specs.Gate.{Judgement}
+use Rattle.vision.specs.Seeding.{fresh_seeding}
+use Rattle.vision.specs.Gate.{judged}
 use Rattle.vision.specs.Vision.{active}
 use Rattle.vision.specs.Since.{clock_since}
 use Rattle.vision.proofs.Clock.{since_taken_lem}
@@ -45,8 +45,8 @@ sixty_four_33 = (since_taken_lem 64 33 (lit≤ tt)).mark
 -- ---- ticks of k 4 at the predicted place (0.0, 0.0), with a sighting at (x, 0.0), if with one
 
 unfoldable pub tick : VisionGateState → Option Float → Judgement
-unfolding judged sighting_judged seeding_judged gathered fresh_seeding zeros2 zeros3 zeros6 steady deviation quiet tracking_judged distance radius hypotenuse hypot_of outweighs larger smaller root_of_squares scaled_root magnitude square_root root_of whole_root root_digits sticky seconds_of add sub mul div lt le eq is_nan of_int to_bits of_bits
-tick gate x = judged gate (option_map (λ (x : Float). record { x = x; y = zero_float; z = zero_float }) x) zeros6 (seconds_of 4)
+unfolding judged zeros2 zeros3 zeros6 hypotenuse hypot_of outweighs larger smaller root_of_squares scaled_root magnitude square_root root_of whole_root root_digits sticky seconds_of add sub mul div lt le eq is_nan of_int to_bits of_bits
+tick gate x = judged gate (option_map (λ (x : Float). record { x = x; y = zero_float; z = zero_float }) x) zeros6 (record { tick_length = 4 })
 
 -- a new gate that sees one place again and again: the judgement after m others
 unfoldable pub again : Float → ℕ → Judgement

@@ -1,4 +1,4 @@
--- The vision clock over ticks that take no sighting: active exactly while m * k ≤ 2048 after taking, and never after a reset. Assumes nothing.
+-- The vision clock over ticks that take no sighting: active exactly while m * k ≤ 2048 after taking, and never after a reset.
 use mathlib.Core.Path.{◌≡◌, refl, sym, ap, ◌∙◌}
 use Prim.Native.Nat.{ℕ, zero, suc, ◌*◌, ◌≤◌, ◌<◌}
 use native.Mathlib.Nat.{suc-mul}
@@ -29,7 +29,6 @@ timeout_positive = tt
 
 -- a clock of a / 4096 s is active exactly while a ≤ 2048
 pub active_at_lem : (clock : Float) (a : ℕ) → HasValue clock false a 4096 → active clock ≡ leb a 2048
-unfolding active
 active_at_lem clock a v = go (leb a 2048) refl
   where
     refuted : (b : Bool) → (T b → ⊥) → b ≡ false
@@ -46,11 +45,9 @@ active_at_lem clock a v = go (leb a 2048) refl
 
 -- while active, a tick that takes nothing adds dt; then the clock stands still
 pub active_runs : (clock dt : Float) → active clock ≡ true → clock_after clock false dt ≡ add binary32 clock dt
-unfolding active clock_after
 active_runs clock dt h = rw h
 
 pub inactive_stands : (clock dt : Float) → active clock ≡ false → clock_after clock false dt ≡ clock
-unfolding active clock_after
 inactive_stands clock dt h = rw h
 
 -- ---- after a taken sighting
@@ -88,7 +85,7 @@ since_taken_lem k (suc m) K = tick k m K (since_taken_lem k m K)
 -- ---- new or reset
 
 start_inactive : active vision_clock_start_s ≡ false
-unfolding active le of_bits
+unfolding le of_bits
 start_inactive = refl
 
 -- the clock stays at 1.5

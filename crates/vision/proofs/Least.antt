@@ -1,4 +1,4 @@
--- Floats that are at least a fraction, by their exact values: what addition and doubling keep of it, and what lies below. Assumes nothing.
+-- Floats that are at least a fraction, by their exact values: what addition and doubling keep of it, and what lies below.
 use mathlib.Core.Path.{◌≡◌, refl, sym, ap, ap₂, ◌∙◌}
 use Prim.Native.Nat.{ℕ, ◌+◌, ◌*◌, ◌≤◌, ◌<◌}
 use native.Mathlib.Nat.{le_trans, le_of_eq, le_of_lt, add-le-add, lt_of_lt_of_le, not-le_of_lt, mul_comm, mul_assoc, mul_right_comm, zero-mul, one-mul, add-mul, mul-le-mul_left, mul-le-mul_right, mul-pos}

@@ -1,10 +1,8 @@
 -- What an outcome says of the gate after it: a taken sighting leaves the gate tracking at 0.0, any other tick lets a tracking gate's t grow,
--- NaN is never taken, and a seeding that is kept holds fewer than 20 sightings, so that its n never wraps. Assumes nothing.
+-- NaN is never taken, and a seeding that is kept holds fewer than 20 sightings.
 use mathlib.Core.Path.{◌≡◌, refl, sym, ap, ◌∙◌}
 use mathlib.Core.Logic.{◌⊎◌, inl, inr}
-use Prim.Native.Nat.{◌+◌, ◌≤◌, ◌<◌}
-use native.Mathlib.Nat.{mod-eq_of_lt}
-use native.Mathlib.Omega.{arith}
+use Prim.Native.Nat.{◌≤◌, ◌<◌}
 use mathlib.Core.Bool.{Bool, true, false, cond, ◌&&◌, true≢false}
 use borrow.Author.Tests.{ltb-true, le-ltb}
 use lib.Dec.{lit<, ltb}
@@ -14,21 +12,21 @@ use Rattle.params.specs.Params.{vision_seed_samples, vision_seed_pos_std_thresh_
 use Rattle.linear.specs.declared.Vector3f.{Vector3f}
 use Rattle.linear.specs.declared.Vector6f.{Vector6f}
 use Rattle.linear.specs.Vector.{zero_float}
-use Rattle.vision.specs.declared.seeding.Seeding.{Seeding}
 use Rattle.vision.specs.declared.gate.VisionGateState.{VisionGateState}
 use Rattle.vision.specs.declared.gate.VisionGateState.TheVariants as Gate
 use Rattle.tick.specs.declared.action.GateAction.TheVariants.{SeedReset, Accept, AcceptJump, FirstReject, Reject}
-use Rattle.vision.specs.declared.gate.Judgement.{Judgement}
+use Rattle.vision.specs.Gate.{Judgement}
+use Rattle.tick.specs.declared.start.Start.{Start}
+use Rattle.tick.specs.Start.{dt_of}
 use Rattle.tick.specs.Outcome.{takes}
-use Rattle.vision.specs.Seeding.{fresh_seeding, gathered, deviation_x, deviation_y, steady}
-use Rattle.vision.specs.Gate.{seeding_judged, distance, radius, tracking_judged, sighting_judged, quiet, judged}
+use Rattle.vision.specs.Seeding.{Seeding, fresh_seeding, gathered, deviation_x, deviation_y, steady}
+use Rattle.vision.specs.Gate.{seeding_judged, distance, radius, tracking_judged, judged}
 use Rattle.vision.specs.Laws.{Taken, Waiting, Seeded}
 
 -- ---- tracking
 
 -- strictly inside the radius
 pub inside_taken : (t d dt : Float) → lt d (radius t) ≡ true → Taken (tracking_judged t d dt)
-unfolding tracking_judged
 inside_taken t d dt h = rw h (jump_or_accept (le vision_gate_base_radius_m d), refl)
   where
     jump_or_accept : (far : Bool) → takes (cond far AcceptJump Accept) ≡ true
@@ -37,7 +35,6 @@ inside_taken t d dt h = rw h (jump_or_accept (le vision_gate_base_radius_m d), r
 
 -- otherwise
 pub outside_waits : (t d dt : Float) → lt d (radius t) ≡ false → Waiting t dt (tracking_judged t d dt)
-unfolding tracking_judged
 outside_waits t d dt h = rw h (first_or_later (eq t zero_float), refl)
   where
     first_or_later : (first : Bool) → takes (cond first FirstReject Reject) ≡ false
@@ -60,7 +57,6 @@ tracking_either t d dt = go (lt d (radius t)) refl
 -- ---- seeding
 
 pub seeding_either : (s : Seeding) → Seeded s
-unfolding seeding_judged
 seeding_either s = go (ltb s.n vision_seed_samples) (steady s) refl refl
   where
     go : (few still : Bool) → ltb s.n vision_seed_samples ≡ few → steady s ≡ still → Seeded s
@@ -70,7 +66,7 @@ seeding_either s = go (ltb s.n vision_seed_samples) (steady s) refl refl
 
 -- a NaN deviation is not steady
 nan_unsteady : (s : Seeding) → (deviation_x s ≡ nan) ⊎ (deviation_y s ≡ nan) → steady s ≡ false
-unfolding steady lt
+unfolding lt
 nan_unsteady s (inl z) = rw z
 nan_unsteady s (inr z) = rw z (never (lt (deviation_x s) vision_seed_pos_std_thresh_m))
   where
@@ -80,7 +76,6 @@ nan_unsteady s (inr z) = rw z (never (lt (deviation_x s) vision_seed_pos_std_thr
 
 -- so at the 20th it gives S
 pub nan_reseeds : (s : Seeding) → vision_seed_samples ≤ s.n → (deviation_x s ≡ nan) ⊎ (deviation_y s ≡ nan) → seeding_judged s ≡ record { action = SeedReset; gate = Gate.Seeding fresh_seeding }
-unfolding seeding_judged
 nan_reseeds s h z = rw (le-ltb s.n vision_seed_samples h, nan_unsteady s z)
 
 -- ---- the gate after a tick
@@ -89,18 +84,18 @@ clash : {A : Type 0} → true ≡ false → A
 clash e = absurd (true≢false e)
 
 -- a taken sighting leaves any gate tracking at 0.0
-pub taken_restarts : (g : VisionGateState) (sighting : Option Vector3f) (p : Vector6f) (dt : Float) → takes (judged g sighting p dt).action ≡ true → (judged g sighting p dt).gate ≡ Gate.Tracking zero_float
-unfolding judged sighting_judged
-taken_restarts g None p dt e = clash (sym e)
-taken_restarts (Gate.Seeding s) (Some v) p dt e =
+pub taken_restarts : (g : VisionGateState) (sighting : Option Vector3f) (p : Vector6f) (start : Start) → takes (judged g sighting p start).action ≡ true → (judged g sighting p start).gate ≡ Gate.Tracking zero_float
+unfolding judged
+taken_restarts g None p start e = clash (sym e)
+taken_restarts (Gate.Seeding s) (Some v) p start e =
     elim (seeding_either (gathered s v)) [ inl w ↦ clash (sym e ∙ ap (λ (j : Judgement). takes j.action) w.1) | inr (inl w) ↦ ap (λ (j : Judgement). j.gate) w | inr (inr w) ↦ clash (sym e ∙ ap (λ (j : Judgement). takes j.action) w) ]
-taken_restarts (Gate.Tracking t) (Some v) p dt e = elim (tracking_either t (distance v p) dt) [ inl w ↦ w.1 | inr w ↦ clash (sym e ∙ w.0) ]
+taken_restarts (Gate.Tracking t) (Some v) p start e = elim (tracking_either t (distance v p) (dt_of start)) [ inl w ↦ w.1 | inr w ↦ clash (sym e ∙ w.0) ]
 
 -- a tracking gate that takes nothing adds dt to its t, with a sighting or without
-pub refused_waits : (t : Float) (sighting : Option Vector3f) (p : Vector6f) (dt : Float) → takes (judged (Gate.Tracking t) sighting p dt).action ≡ false → (judged (Gate.Tracking t) sighting p dt).gate ≡ Gate.Tracking (add binary32 t dt)
-unfolding judged sighting_judged quiet
-refused_waits t None p dt e = refl
-refused_waits t (Some v) p dt e = elim (tracking_either t (distance v p) dt) [ inl w ↦ clash (sym w.0 ∙ e) | inr w ↦ w.1 ]
+pub refused_waits : (t : Float) (sighting : Option Vector3f) (p : Vector6f) (start : Start) → takes (judged (Gate.Tracking t) sighting p start).action ≡ false → (judged (Gate.Tracking t) sighting p start).gate ≡ Gate.Tracking (add binary32 t (dt_of start))
+unfolding judged
+refused_waits t None p start e = refl
+refused_waits t (Some v) p start e = elim (tracking_either t (distance v p) (dt_of start)) [ inl w ↦ clash (sym w.0 ∙ e) | inr w ↦ w.1 ]
 
 -- a gate that seeds
 abbrev pub Seeds : VisionGateState → Type 0
@@ -108,14 +103,14 @@ Seeds (Gate.Seeding s) = Unit {0}
 Seeds (Gate.Tracking t) = ⊥
 
 -- seeds on where nothing is taken: only C starts tracking
-pub refused_seeds : (g : VisionGateState) (sighting : Option Vector3f) (p : Vector6f) (dt : Float) → Seeds g → takes (judged g sighting p dt).action ≡ false → Seeds (judged g sighting p dt).gate
-unfolding judged sighting_judged quiet
-refused_seeds (Gate.Tracking t) sighting p dt h e = absurd h
-refused_seeds (Gate.Seeding s) None p dt h e = tt
-refused_seeds (Gate.Seeding s) (Some v) p dt h e =
+pub refused_seeds : (g : VisionGateState) (sighting : Option Vector3f) (p : Vector6f) (start : Start) → Seeds g → takes (judged g sighting p start).action ≡ false → Seeds (judged g sighting p start).gate
+unfolding judged
+refused_seeds (Gate.Tracking t) sighting p start h e = absurd h
+refused_seeds (Gate.Seeding s) None p start h e = tt
+refused_seeds (Gate.Seeding s) (Some v) p start h e =
     elim (seeding_either (gathered s v)) [ inl w ↦ rw w.1 tt | inr (inl w) ↦ clash (sym (ap (λ (j : Judgement). takes j.action) w) ∙ e) | inr (inr w) ↦ rw w tt ]
 
--- ---- n never wraps
+-- ---- a seeding stays small
 
 -- a seeding of fewer than 20 sightings, or a gate that is tracking
 abbrev pub Small : VisionGateState → Type 0
@@ -123,18 +118,12 @@ Small (Gate.Seeding s) = s.n < vision_seed_samples
 Small (Gate.Tracking t) = Unit {0}
 
 pub fresh_small : Small (Gate.Seeding fresh_seeding)
-unfolding fresh_seeding
 fresh_small = lit< tt
 
 -- every tick keeps it
-pub stays_small : (g : VisionGateState) (sighting : Option Vector3f) (p : Vector6f) (dt : Float) → Small g → Small (judged g sighting p dt).gate
-unfolding judged sighting_judged quiet
-stays_small (Gate.Seeding s) None p dt h = h
-stays_small (Gate.Tracking t) None p dt h = tt
-stays_small (Gate.Seeding s) (Some v) p dt h = elim (seeding_either (gathered s v)) [ inl w ↦ rw w.1 w.0 | inr (inl w) ↦ rw w tt | inr (inr w) ↦ rw w fresh_small ]
-stays_small (Gate.Tracking t) (Some v) p dt h = elim (tracking_either t (distance v p) dt) [ inl w ↦ rw w.1 tt | inr w ↦ rw w.1 tt ]
-
--- so n grows by one
-pub small_grows : (s : Seeding) (v : Vector3f) → Small (Gate.Seeding s) → (gathered s v).n ≡ s.n + 1
-unfolding gathered
-small_grows s v h = mod-eq_of_lt (omega arith)
+pub stays_small : (g : VisionGateState) (sighting : Option Vector3f) (p : Vector6f) (start : Start) → Small g → Small (judged g sighting p start).gate
+unfolding judged
+stays_small (Gate.Seeding s) None p start h = h
+stays_small (Gate.Tracking t) None p start h = tt
+stays_small (Gate.Seeding s) (Some v) p start h = elim (seeding_either (gathered s v)) [ inl w ↦ rw w.1 w.0 | inr (inl w) ↦ rw w tt | inr (inr w) ↦ rw w fresh_small ]
+stays_small (Gate.Tracking t) (Some v) p start h = elim (tracking_either t (distance v p) (dt_of start)) [ inl w ↦ rw w.1 tt | inr w ↦ rw w.1 tt ]

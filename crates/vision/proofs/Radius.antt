@@ -1,5 +1,5 @@
 -- The gate's radius over ticks that take no sighting: it passes every distance up to D metres once m * k ≥ 2048 * D, and only the first of
--- them can be a first refusal. Assumes nothing.
+-- them can be a first refusal.
 use mathlib.Core.Path.{◌≡◌, refl, sym, ◌∙◌}
 use Prim.Native.Nat.{ℕ, zero, suc, ◌+◌, ◌*◌, ◌≤◌}
 use native.Mathlib.Nat.{le_refl, suc-mul}
@@ -13,13 +13,15 @@ use lib.Ieee.Back.{round_whole}
 use Rattle.params.specs.Params.{vision_gate_base_radius_m, vision_gate_expand_rate_m_per_s}
 use Rattle.linear.specs.Vector.{zero_float}
 use Rattle.tick.specs.TickLength.{seconds_of}
+use Rattle.tick.specs.declared.start.Start.{Start}
+use Rattle.tick.specs.Start.{dt_of}
 use Rattle.linear.specs.declared.Vector3f.{Vector3f}
 use Rattle.linear.specs.declared.Vector6f.{Vector6f}
 use Rattle.vision.specs.declared.gate.VisionGateState.TheVariants.{Tracking}
 use Rattle.tick.specs.declared.action.GateAction.TheVariants.{FirstReject, Reject}
 use Rattle.tick.specs.Outcome.{takes}
 use Rattle.std.specs.Prelude.{Some}
-use Rattle.vision.specs.Gate.{distance, radius, tracking_judged, sighting_judged, judged}
+use Rattle.vision.specs.Gate.{distance, radius, tracking_judged, judged}
 use Rattle.vision.specs.Since.{since_taken}
 use Rattle.vision.specs.Laws.{AtLeast}
 use Rattle.vision.proofs.Least.{add_least, double_least, below_least, least_not_zero}
@@ -33,7 +35,6 @@ base_least = (refl, lit≤ tt)
 
 -- from t = D / 2 s on the radius is at least D + 1/2
 radius_least : (t : Float) (D : ℕ) → 1 ≤ D → D ≤ 64 → AtLeast t (2048 * D) 4096 → AtLeast (radius t) (2048 + 2 * (2048 * D)) 4096
-unfolding radius
 radius_least t D l h p =
     add_least vision_gate_base_radius_m (mul binary32 vision_gate_expand_rate_m_per_s t) 2048 (2 * (2048 * D)) (2048 + 2 * (2048 * D)) 4096 (omega arith) (lit< tt)
     (exact_at (2048 + 2 * (2048 * D)) (omega arith)) (le_refl (2048 + 2 * (2048 * D))) base_least
@@ -48,16 +49,15 @@ widens k m D K l h r d small =
     (radius_least (since_taken (seconds_of k) m) D l h (sum_reaches k m (2048 * D) K (omega arith) (omega arith) r))
 
 -- so a tracking gate takes the sighting
-pub widening_takes : (k m D : ℕ) → k ≤ 64 → 1 ≤ D → D ≤ 64 → 2048 * D ≤ m * k → (v : Vector3f) (p : Vector6f) → T (le (distance v p) (of_int binary32 (pos D)))
-    → takes (judged (Tracking (since_taken (seconds_of k) m)) (Some v) p (seconds_of k)).action ≡ true
-unfolding judged sighting_judged
-widening_takes k m D K l h r v p small =
-    (inside_taken (since_taken (seconds_of k) m) (distance v p) (seconds_of k) (is_true (lt (distance v p) (radius (since_taken (seconds_of k) m))) (widens k m D K l h r (distance v p) small))).0
+pub widening_takes : (start : Start) (m D : ℕ) → start.tick_length ≤ 64 → 1 ≤ D → D ≤ 64 → 2048 * D ≤ m * start.tick_length → (v : Vector3f) (p : Vector6f) → T (le (distance v p) (of_int binary32 (pos D)))
+    → takes (judged (Tracking (since_taken (dt_of start) m)) (Some v) p start).action ≡ true
+unfolding judged
+widening_takes start m D K l h r v p small =
+    (inside_taken (since_taken (dt_of start) m) (distance v p) (dt_of start) (is_true (lt (distance v p) (radius (since_taken (dt_of start) m))) (widens start.tick_length m D K l h r (distance v p) small))).0
 
 -- a refusal is the first exactly where no tick came since the last taken sighting, quiet or not
 pub refusal : (k m : ℕ) → 1 ≤ k → k ≤ 64 → (d : Float) → lt d (radius (since_taken (seconds_of k) m)) ≡ false
     → (tracking_judged (since_taken (seconds_of k) m) d (seconds_of k)).action ≡ cond (eqb m 0) FirstReject Reject
-unfolding tracking_judged
 refusal k m l K d h = rw (h, zero_only m)
   where
     zero_only : (m : ℕ) → eq (since_taken (seconds_of k) m) zero_float ≡ eqb m 0

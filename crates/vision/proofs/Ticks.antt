@@ -1,5 +1,4 @@
 -- The sum of m tick lengths of k/4096 s in binary32: exactly m * k / 4096 up to 2 ^ 24 / 4096 = 4096 s, and never below that from there on.
--- Assumes nothing.
 use mathlib.Core.Path.{◌≡◌, refl, sym, subst}
 use Prim.Native.Nat.{ℕ, zero, suc, ◌+◌, ◌*◌, ◌^◌, ◌≤◌, ◌<◌}
 use native.Mathlib.Nat.{le_refl, lt_trans, zero-mul, suc-mul, mul_assoc}

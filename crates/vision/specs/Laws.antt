@@ -8,15 +8,15 @@ use Rattle.linear.specs.declared.Vector6f.{Vector6f}
 use Rattle.linear.specs.Vector.{zero_float}
 use Rattle.params.specs.Params.{vision_seed_samples, vision_clock_start_s}
 use Rattle.tick.specs.TickLength.{seconds_of}
+use Rattle.tick.specs.declared.start.Start.{Start}
+use Rattle.tick.specs.Start.{dt_of}
 use Rattle.tick.specs.declared.action.GateAction.TheVariants.{Accumulate, SeedComplete, SeedReset, FirstReject, Reject}
 use Rattle.tick.specs.Outcome.{takes}
-use Rattle.vision.specs.declared.seeding.Seeding.{Seeding}
 use Rattle.vision.specs.declared.gate.VisionGateState.{VisionGateState}
 use Rattle.vision.specs.declared.gate.VisionGateState.TheVariants as Gate
-use Rattle.vision.specs.declared.gate.Judgement.{Judgement}
 use Rattle.vision.specs.declared.Vision.{Vision}
-use Rattle.vision.specs.Seeding.{fresh_seeding, deviation_x, deviation_y}
-use Rattle.vision.specs.Gate.{distance, radius, seeding_judged, tracking_judged, judged}
+use Rattle.vision.specs.Seeding.{Seeding, fresh_seeding, deviation_x, deviation_y}
+use Rattle.vision.specs.Gate.{Judgement, distance, radius, seeding_judged, tracking_judged, judged}
 use Rattle.vision.specs.Vision.{active, new_vision, vision_after}
 use Rattle.vision.specs.Since.{since_taken, clock_since}
 
@@ -50,17 +50,17 @@ Unheld v = v.time_since_vision_update_s ≡ vision_clock_start_s
 -- a tick that takes a sighting begins to hold it
 abbrev pub TakenIsHeld : Type 0
 TakenIsHeld =
-    (v : Vision) (sighting : Option Vector3f) (predicted : Vector6f) (k : ℕ)
-    → takes (vision_after v sighting predicted (seconds_of k)).action ≡ true
-    → Held k 0 (vision_after v sighting predicted (seconds_of k)).vision
+    (v : Vision) (sighting : Option Vector3f) (predicted : Vector6f) (start : Start)
+    → takes (vision_after v sighting predicted start).action ≡ true
+    → Held start.tick_length 0 (vision_after v sighting predicted start).vision
 
 -- one that takes none holds it a tick longer
 abbrev pub HeldWaits : Type 0
 HeldWaits =
-    (v : Vision) (sighting : Option Vector3f) (predicted : Vector6f) (k m : ℕ)
-    → Held k m v
-    → takes (vision_after v sighting predicted (seconds_of k)).action ≡ false
-    → Held k (suc m) (vision_after v sighting predicted (seconds_of k)).vision
+    (v : Vision) (sighting : Option Vector3f) (predicted : Vector6f) (start : Start) (m : ℕ)
+    → Held start.tick_length m v
+    → takes (vision_after v sighting predicted start).action ≡ false
+    → Held start.tick_length (suc m) (vision_after v sighting predicted start).vision
 
 -- new or reset, none is held, nor while none is taken
 abbrev pub NewIsUnheld : Type 0
@@ -68,10 +68,10 @@ NewIsUnheld = Unheld new_vision
 
 abbrev pub UnheldWaits : Type 0
 UnheldWaits =
-    (v : Vision) (sighting : Option Vector3f) (predicted : Vector6f) (k : ℕ)
+    (v : Vision) (sighting : Option Vector3f) (predicted : Vector6f) (start : Start)
     → Unheld v
-    → takes (vision_after v sighting predicted (seconds_of k)).action ≡ false
-    → Unheld (vision_after v sighting predicted (seconds_of k)).vision
+    → takes (vision_after v sighting predicted start).action ≡ false
+    → Unheld (vision_after v sighting predicted start).vision
 
 -- vision is active exactly while m * k ≤ 2048 after a taken sighting
 abbrev pub HeldIsActive : Type 0
@@ -96,27 +96,27 @@ RadiusWidens =
 -- so a tracking gate takes the sighting
 abbrev pub WideningTakes : Type 0
 WideningTakes =
-    (k m D : ℕ)
-    → k ≤ 64
+    (start : Start) (m D : ℕ)
+    → start.tick_length ≤ 64
     → 1 ≤ D
     → D ≤ 64
-    → 2048 * D ≤ m * k
+    → 2048 * D ≤ m * start.tick_length
     → (v : Vector3f) (p : Vector6f)
     → T (le (distance v p) (of_int binary32 (pos D)))
-    → takes (judged (Gate.Tracking (since_taken (seconds_of k) m)) (Some v) p (seconds_of k)).action ≡ true
+    → takes (judged (Gate.Tracking (since_taken (dt_of start) m)) (Some v) p start).action ≡ true
 
 -- and so does a tick, m ticks after the last taken sighting
 abbrev pub HeldTakes : Type 0
 HeldTakes =
-    (k m D : ℕ) (v : Vision)
-    → k ≤ 64
+    (start : Start) (m D : ℕ) (v : Vision)
+    → start.tick_length ≤ 64
     → 1 ≤ D
     → D ≤ 64
-    → 2048 * D ≤ m * k
-    → Held k m v
+    → 2048 * D ≤ m * start.tick_length
+    → Held start.tick_length m v
     → (sighting : Vector3f) (predicted : Vector6f)
     → T (le (distance sighting predicted) (of_int binary32 (pos D)))
-    → takes (vision_after v (Some sighting) predicted (seconds_of k)).action ≡ true
+    → takes (vision_after v (Some sighting) predicted start).action ≡ true
 
 -- ---- outcomes
 
@@ -166,6 +166,6 @@ NanDeviationSeedsAnew =
 -- a taken sighting leaves any gate tracking from 0.0
 abbrev pub TakenRestarts : Type 0
 TakenRestarts =
-    (g : VisionGateState) (sighting : Option Vector3f) (p : Vector6f) (dt : Float)
-    → takes (judged g sighting p dt).action ≡ true
-    → (judged g sighting p dt).gate ≡ Gate.Tracking zero_float
+    (g : VisionGateState) (sighting : Option Vector3f) (p : Vector6f) (start : Start)
+    → takes (judged g sighting p start).action ≡ true
+    → (judged g sighting p start).gate ≡ Gate.Tracking zero_float

@@ -1,4 +1,4 @@
--- Document 01, 'Gate', over ticks: a tracking gate's t and the vision clock after m ticks that took no sighting. Assumes nothing.
+-- A tracking gate's t and the vision clock after m ticks that took no sighting (docs/RULES.md, 'The vision clock').
 use Rattle.std.specs.Prelude.{ℕ, zero, suc, false, Float}
 use Rattle.std.specs.Float.{binary32}
 use Rattle.std.specs.Float.Ieee.{add}

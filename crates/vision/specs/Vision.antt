@@ -1,5 +1,5 @@
--- Document 01, 'Gate', the vision clock, and the gate together with it. Assumes nothing.
-use Rattle.std.specs.Prelude.{Bool, cond, Float, Option}
+-- The vision clock, and the gate together with it (docs/RULES.md, 'The vision clock').
+use Rattle.std.specs.Prelude.{Bool, if◌then◌else◌, Float, Option}
 use Rattle.std.specs.Float.{binary32}
 use Rattle.std.specs.Float.Ieee.{add, le}
 use Rattle.linear.specs.declared.Vector3f.{Vector3f}
@@ -8,28 +8,35 @@ use Rattle.linear.specs.Vector.{zero_float}
 use Rattle.params.specs.Params.{vision_active_timeout_s, vision_clock_start_s}
 use Rattle.vision.specs.declared.gate.VisionGateState.TheVariants as Gate
 use Rattle.vision.specs.declared.Vision.{Vision}
-use Rattle.vision.specs.declared.VisionAnswer.{VisionAnswer}
+use Rattle.tick.specs.declared.action.GateAction.{GateAction}
+use Rattle.tick.specs.declared.start.Start.{Start}
+use Rattle.tick.specs.Start.{dt_of}
 use Rattle.tick.specs.Outcome.{takes}
 use Rattle.vision.specs.Seeding.{fresh_seeding}
 use Rattle.vision.specs.Gate.{judged}
 
--- 'Active: <= 0.5', of the vision clock
-unfoldable pub active : Float → Bool
+-- the cameras are active: the clock is at most 0.5 s
+abbrev pub active : Float → Bool
 active clock = le clock vision_active_timeout_s
 
--- '0.0 after taking; else += dt while <= 0.5'
-unfoldable pub clock_after : Float → Bool → Float → Float
-clock_after clock taken dt = cond taken zero_float (cond (le clock vision_active_timeout_s) (add binary32 clock dt) clock)
+-- 0.0 after a taken sighting; else the clock runs by dt while it is at most 0.5 s, and then stands
+abbrev pub clock_after : Float → Bool → Float → Float
+clock_after clock taken dt = if taken then zero_float else if le clock vision_active_timeout_s then add binary32 clock dt else clock
 
--- new or reset: a fresh seeding, and the clock at 1.5
-unfoldable pub new_vision : Vision
+-- new or reset: a fresh seeding, and the clock at 1.5 s
+abbrev pub new_vision : Vision
 new_vision = record { gate = Gate.Seeding fresh_seeding; time_since_vision_update_s = vision_clock_start_s }
 
+-- what a tick answers, and the vision that it leaves
+pub record VisionAnswer : Type 0 where
+  pub action : GateAction
+  pub vision : Vision
+
 -- a tick: the gate judges, and the clock moves by whether it took the sighting
-unfoldable pub vision_after : Vision → Option Vector3f → Vector6f → Float → VisionAnswer
-vision_after v sighting predicted dt =
-    let j = judged v.gate sighting predicted dt in
+unfoldable pub vision_after : Vision → Option Vector3f → Vector6f → Start → VisionAnswer
+vision_after v sighting predicted start =
+    let j = judged v.gate sighting predicted start in
     record {
       action = j.action;
-      vision = record { gate = j.gate; time_since_vision_update_s = clock_after v.time_since_vision_update_s (takes j.action) dt };
+      vision = record { gate = j.gate; time_since_vision_update_s = clock_after v.time_since_vision_update_s (takes j.action) (dt_of start) };
     }

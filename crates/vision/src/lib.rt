@@ -1,4 +1,5 @@
-// The gate of `update_state_estimate` and the vision clock together, a tick at a time.
+//! The vision gate and the vision clock, a tick at a time: the part of `update_state_estimate` in
+//! control_context.rs that decides which sightings count, and for how long after one the cameras are active.
 #![tactic(auto)]
 
 pub mod gate; // gate.rt: which sightings are taken
@@ -6,31 +7,23 @@ pub mod laws; // laws.rt: what is proved of gate and clock over ticks
 pub mod seeding; // seeding.rt: what a seeding gathers
 
 ghost use Rattle.std.specs.Prelude.{◌≡◌};
-ghost use Rattle.vision.specs.Vision.{clock_after, active, new_vision, vision_after};
+ghost use Rattle.vision.specs.Vision.{active, clock_after, new_vision, vision_after};
 
-use crate::gate::{Judgement, VisionGateState};
+use crate::gate::VisionGateState;
 use crate::seeding::Seeding;
 use linear::{Vector3f, Vector6f};
 use params::{VISION_ACTIVE_TIMEOUT_S, VISION_CLOCK_START_S};
 use tick::action::GateAction;
+use tick::start::Start;
 
 #[derive(Clone, Copy)]
 pub struct Vision {
     pub gate: VisionGateState,
-    // Document 01's vision clock.
+    /// The vision clock, in seconds.
     pub time_since_vision_update_s: f32,
 }
 
-// What a tick answers, beside the vision as the tick leaves it.
-// Both by value, no `&mut` and no pair: document 01 has an answer struct beside the new state.
-#[derive(Clone, Copy)]
-pub struct VisionAnswer {
-    pub action: GateAction,
-    pub vision: Vision,
-}
-
 // The vision clock after a tick; beyond the timeout it stands still.
-#[tactic(auto, unfolding(crate::specs::Vision::clock_after))]
 fn clock_after(clock: f32, taken: bool, dt: f32) -> f32
     ensures { result ≡ clock_after clock taken dt }
 {
@@ -44,8 +37,7 @@ fn clock_after(clock: f32, taken: bool, dt: f32) -> f32
 }
 
 impl Vision {
-    // New, and what a reset leaves.
-    #[tactic(auto, unfolding(crate::specs::Vision::new_vision))]
+    /// At the start, and after a reset: a fresh seeding, and a clock beyond the timeout.
     pub fn new() -> Vision
         ensures { result ≡ new_vision }
     {
@@ -55,28 +47,31 @@ impl Vision {
         }
     }
 
-    #[tactic(auto, unfolding(crate::specs::Vision::active))]
-    pub fn vision_active(self) -> bool
-        ensures { result ≡ active self.time_since_vision_update_s }
+    /// `vision_active`: the cameras are active.
+    pub fn vision_active(&self) -> bool
+        ensures { result ≡ active self.now.time_since_vision_update_s }
     {
         self.time_since_vision_update_s <= VISION_ACTIVE_TIMEOUT_S
     }
 
-    // One tick: the gate judges, and the clock moves.
-    // Three values from three places, handed on to the gate: a struct would only be taken apart there.
+    /// One tick: the gate judges, and the clock moves.
     #[tactic(auto, unfolding(crate::specs::Vision::vision_after))]
-    pub fn update(self, sighting: Option<Vector3f>, predicted: Vector6f, dt: f32) -> VisionAnswer
-        ensures { result ≡ vision_after self sighting predicted dt }
+    pub fn update(
+        &mut self,
+        sighting: Option<Vector3f>,
+        predicted: Vector6f,
+        start: Start,
+    ) -> GateAction
+        ensures { let a = vision_after self.old sighting predicted start in
+            (result ≡ a.action) × (self.new ≡ a.vision) }
     {
-        let Judgement { action, gate } = self.gate.judge(sighting, predicted, dt);
-        let vision = Vision {
-            gate,
-            time_since_vision_update_s: clock_after(
-                self.time_since_vision_update_s,
-                action.takes(),
-                dt,
-            ),
-        };
-        VisionAnswer { action, vision }
+        let dt = start.tick_length.seconds();
+        let action = self.gate.judge(sighting, predicted, start);
+        self.time_since_vision_update_s = clock_after(
+            self.time_since_vision_update_s,
+            action.takes(),
+            dt,
+        );
+        action
     }
 }

@@ -1,22 +1,40 @@
-// A seeding: sightings gathered until their places are known to be steady.
+//! A seeding: sightings gathered until their places are known to be steady (docs/RULES.md, 'Seeding').
 
-ghost use Rattle.std.specs.Prelude.{◌≡◌};
-ghost use Rattle.vision.specs.Seeding.{fresh_seeding, gathered, deviation, steady};
+ghost use Rattle.std.specs.Prelude.{◌≡◌, ◌<◌};
+ghost use Rattle.params.specs.Params.{vision_seed_samples};
+ghost use Rattle.vision.specs.Gate.{seeding_judged};
+ghost use Rattle.vision.specs.Seeding.{fresh_seeding, gathered, deviation, steady, kept_seeding};
 
 use ieee754::root::sqrt;
 use linear::{Vector2f, Vector3f, ZEROS_2};
-use params::VISION_SEED_POS_STD_THRESH_M;
+use params::{VISION_SEED_POS_STD_THRESH_M, VISION_SEED_SAMPLES};
+use std::marker::Model;
+use tick::action::GateAction;
 
-// The sightings of a seeding: how many, the sums of their places and of the squares.
+/// The sightings of a seeding, fewer than `VISION_SEED_SAMPLES`: how many, the sums of their places
+/// in metres, and of the squares.
 #[derive(Clone, Copy)]
 pub struct Seeding {
-    pub n: u32,
-    pub pos_sum: Vector2f,
-    pub pos_sq_sum: Vector2f,
+    n: u32,
+    pos_sum: Vector2f,
+    pos_sq_sum: Vector2f,
+}
+
+impl Model for Seeding {
+    ghost use Rattle.std.specs.Prelude.{◌<◌};
+    ghost use Rattle.params.specs.Params.{vision_seed_samples};
+    ghost use Rattle.vision.specs.Seeding.{Seeding};
+
+    ghost Value = { Seeding };
+
+    ghost view = { λ s. record { n = s.n; pos_sum = s.pos_sum; pos_sq_sum = s.pos_sq_sum } };
+
+    ghost invariant = { λ s. s.n < vision_seed_samples };
+
+    ghost inverse = { λ v. record { n = v.n; pos_sum = v.pos_sum; pos_sq_sum = v.pos_sq_sum } };
 }
 
 // The deviation of n samples: Variance = E[x²] - (E[x])², which rounding can take below zero.
-#[tactic(auto, unfolding(crate::specs::Seeding::deviation))]
 fn deviation_of(sum: f32, sq_sum: f32, nf: f32) -> f32
     ensures { result ≡ deviation sum sq_sum nf }
 {
@@ -25,8 +43,8 @@ fn deviation_of(sum: f32, sq_sum: f32, nf: f32) -> f32
 }
 
 impl Seeding {
-    // A seeding that has seen nothing, the Rust's default.
-    #[tactic(auto, unfolding(crate::specs::Seeding::fresh_seeding, linear::specs::Vector::zeros2))]
+    /// A seeding that has seen nothing: `VisionGateState::default` of control_context.rs.
+    #[tactic(auto, unfolding(linear::specs::Vector::zeros2))]
     pub fn fresh() -> Seeding
         ensures { result ≡ fresh_seeding }
     {
@@ -37,36 +55,47 @@ impl Seeding {
         }
     }
 
-    // One sighting more.
-    #[tactic(auto, unfolding(crate::specs::Seeding::gathered))]
-    pub fn gather(self, sighting: Vector3f) -> Seeding
-        ensures { result ≡ gathered self sighting }
+    /// How many sightings.
+    pub fn n(&self) -> u32
+        ensures { (result ≡ self.now.n) × (result < vision_seed_samples) }
     {
-        let x = sighting.x;
-        let y = sighting.y;
-        let sum = Vector2f {
-            x: self.pos_sum.x + x,
-            y: self.pos_sum.y + y,
-        };
-        let sq_sum = Vector2f {
-            x: self.pos_sq_sum.x + x * x,
-            y: self.pos_sq_sum.y + y * y,
-        };
-        Seeding {
-            n: self.n.wrapping_add(1),
-            pos_sum: sum,
-            pos_sq_sum: sq_sum,
-        }
+        self.n
     }
 
-    // Whether both deviations are small; a NaN is not.
-    #[tactic(auto, unfolding(crate::specs::Seeding::steady))]
-    pub fn is_steady(self) -> bool
-        ensures { result ≡ steady self }
+    /// The sums of their places.
+    pub fn pos_sum(&self) -> Vector2f
+        ensures { result ≡ self.now.pos_sum }
     {
+        self.pos_sum
+    }
+
+    /// The sums of the squares of their places.
+    pub fn pos_sq_sum(&self) -> Vector2f
+        ensures { result ≡ self.now.pos_sq_sum }
+    {
+        self.pos_sq_sum
+    }
+
+    /// Gathers one sighting more. The last one that a seeding needs ends it, and leaves a fresh one.
+    pub fn gather(&mut self, sighting: Vector3f) -> GateAction
+        ensures { let s = gathered self.old sighting in
+            (result ≡ (seeding_judged s).action) × (self.new ≡ kept_seeding s) }
+    {
+        self.n += 1;
+        self.pos_sum.x += sighting.x;
+        self.pos_sum.y += sighting.y;
+        self.pos_sq_sum.x += sighting.x * sighting.x;
+        self.pos_sq_sum.y += sighting.y * sighting.y;
+        if self.n < VISION_SEED_SAMPLES {
+            return GateAction::Accumulate;
+        }
         let nf = std::num::nearest_u32_to_f32(self.n);
         let x = deviation_of(self.pos_sum.x, self.pos_sq_sum.x, nf);
         let y = deviation_of(self.pos_sum.y, self.pos_sq_sum.y, nf);
-        (x < VISION_SEED_POS_STD_THRESH_M) & (y < VISION_SEED_POS_STD_THRESH_M)
+        *self = Seeding::fresh();
+        if (x < VISION_SEED_POS_STD_THRESH_M) & (y < VISION_SEED_POS_STD_THRESH_M) {
+            return GateAction::SeedComplete;
+        }
+        GateAction::SeedReset
     }
 }

@@ -3,7 +3,7 @@ use Rattle.std.proofs.Common.{◌≡◌, ℕ, Bool, true, false, ◌&&◌, T, eq
 use Rattle.ieee754.proofs.RootCases as Root
 use Rattle.ieee754.proofs.RemainderCases as Remainder
 use Rattle.ieee754.proofs.HypotCases as Hypot
-use Rattle.tick.specs.TickLength.{is_tick_length, tick_length_of}
+use Rattle.tick.specs.TickLength.{is_tick_length}
 use Rattle.tick.proofs.TickLengthCases as Length
 use Rattle.controllers.specs.Brake.{brake_of}
 use Rattle.controllers.proofs.WheelCases as Wheel
@@ -11,7 +11,6 @@ use Rattle.controllers.specs.EncoderLag.{lag_of}
 use Rattle.controllers.proofs.EncoderCases as Lag
 use Rattle.vision.proofs.Cases as Gate
 use Rattle.control_context.proofs.ClampedCases as Limits
-use Rattle.body_controller.specs.Controller.{new_of}
 use Rattle.worked_values.specs.WorkedValues.{float, current_bits, NumberFor, WorkedValues}
 
 -- the brake's four, of one test
@@ -30,7 +29,7 @@ apart true false c d h = absurd h
 apart false b c d h = absurd h
 
 currents : (k : ℕ) → is_tick_length k ≡ true → Currents k
-unfolding Wheel.starred Wheel.fresh_current
+unfolding Wheel.as_worked_out Wheel.fresh_current
 currents k h =
     let each = apart (eqb (current_bits k (float 0x43fa_0000)) 0xbf80_0000) (eqb (current_bits k (float 0xc3fa_0000)) 0x3f80_0000) (eqb (current_bits k (float 0x7fc0_0000)) 0xbf80_0000) (eqb (current_bits k (float 0xff80_0000)) 0xbf80_0000) (Wheel.fresh_brake k h) in
     record {
@@ -41,19 +40,19 @@ currents k h =
     }
 
 refused_0 : NumberFor 0 1
-unfolding new_of tick_length_of brake_of lag_of
+unfolding brake_of lag_of
 refused_0 = (refl, refl, refl)
 
 refused_65 : NumberFor 65 1
-unfolding new_of tick_length_of brake_of lag_of
+unfolding brake_of lag_of
 refused_65 = (refl, refl, refl)
 
 accepted_1 : NumberFor 1 0
-unfolding new_of tick_length_of brake_of lag_of
+unfolding brake_of lag_of
 accepted_1 = (refl, refl, refl)
 
 accepted_64 : NumberFor 64 0
-unfolding new_of tick_length_of brake_of lag_of
+unfolding brake_of lag_of
 accepted_64 = (refl, refl, refl)
 
 pub worked_values : WorkedValues
@@ -78,7 +77,7 @@ worked_values = record {
   hypot_infinity = Hypot.hypotenuse_infinity_nan;
   brake_500 = λ k h. (currents k h).plus;
   brake_minus_500 = λ k h. (currents k h).minus;
-  brake-nan = λ k h. (currents k h).no_number;
+  brake_nan = λ k h. (currents k h).no_number;
   brake_minus_infinity = λ k h. (currents k h).infinite;
   twist_10 = Limits.ten_unclamped;
   twist_nan = (Limits.nan_marked).0;

@@ -1,4 +1,4 @@
--- Worked values of the rules, each shown of the definition itself. The contract of `worked_values` names them.
+-- Worked values of the rules, each shown of the definition itself (docs/RULES.md, 'Worked values').
 use Rattle.std.specs.Prelude.{◌≡◌, ℕ, Bool, true, false, Float}
 use Rattle.std.specs.Float.{nan, binary32}
 use Rattle.std.specs.Float.Ieee.{of_bits, to_bits}
@@ -8,8 +8,7 @@ use Rattle.ieee754.specs.Hypot.{hypotenuse}
 use Rattle.linear.specs.declared.Vector3f.{Vector3f}
 use Rattle.linear.specs.Vector.{zero_float}
 use Rattle.tick.specs.TickLength.{is_tick_length, seconds_of, micros_of}
-use Rattle.controllers.specs.Axis.{calculated}
-use Rattle.controllers.specs.Wheel.{wheel_controller}
+use Rattle.controllers.specs.Axis.{one_calculated, no_memory}
 use Rattle.controllers.specs.Brake as Brake
 use Rattle.controllers.specs.EncoderLag as Lag
 use Rattle.vision.specs.Vision.{active}
@@ -27,9 +26,8 @@ abbrev pub active_at : ℕ → ℕ → Bool
 active_at k m = active (clock_since zero_float (seconds_of k) m)
 
 -- the bits of the current that a fresh brake gives a wheel of this speed
--- (written out, so that the statement reads by itself: the proof's own copy is one that a computation unfolds)
 abbrev pub current_bits : ℕ → Float → ℕ
-current_bits k speed = to_bits binary32 (calculated wheel_controller zero_float speed (seconds_of k)).output
+current_bits k speed = to_bits binary32 (one_calculated Brake.wheel_settings no_memory zero_float speed (seconds_of k)).output
 
 -- a twist of 10.0 along x and y, and of 5.0·TAU
 abbrev pub at_bounds : Vector3f
@@ -75,7 +73,7 @@ pub record WorkedValues : Type 0 where
   pub brake_500 : (k : ℕ) → is_tick_length k ≡ true → current_bits k (float 0x43fa_0000) ≡ 0xbf80_0000
   pub brake_minus_500 : (k : ℕ) → is_tick_length k ≡ true → current_bits k (float 0xc3fa_0000) ≡ 0x3f80_0000
   -- and -1.0 at NaN and at -infinity
-  pub brake-nan : (k : ℕ) → is_tick_length k ≡ true → current_bits k (float 0x7fc0_0000) ≡ 0xbf80_0000
+  pub brake_nan : (k : ℕ) → is_tick_length k ≡ true → current_bits k (float 0x7fc0_0000) ≡ 0xbf80_0000
   pub brake_minus_infinity : (k : ℕ) → is_tick_length k ≡ true → current_bits k (float 0xff80_0000) ≡ 0xbf80_0000
   -- a twist at its bounds is unclamped; NaN stays NaN and is marked clamped
   pub twist_10 : twist_clamped at_bounds ≡ record { value = at_bounds; clamped = false }

@@ -1,5 +1,4 @@
-// Values of the rules, worked out: definitions in specs/, proofs in proofs/. No code, the clause is
-// what counts.
+//! Values of the rules, worked out (docs/RULES.md, 'Worked values').
 #![tactic(auto)]
 
 ghost use Rattle.worked_values.specs.WorkedValues.{WorkedValues};

@@ -1,4 +1,4 @@
-// `FirstOrderLag` of lib-stm32's model/mod.rs on one axis.
+//! `FirstOrderLag` of lib-stm32's model/mod.rs on one axis.
 
 ghost use Rattle.std.specs.Prelude.{◌≡◌};
 ghost use Rattle.controllers.specs.LagAxis.{one_over_t, axis_step, axis_invert, lag_turn, iterated};
@@ -7,13 +7,13 @@ use ieee754::bits::abs;
 
 // An axis has a gain, a slope and a state of its own; the rest is every axis's.
 #[derive(Clone, Copy)]
-pub struct Axis {
-    pub k: f32,
-    pub t_slope: f32,
-    pub t_min: f32,
-    pub dt: f32,
-    pub n_steps: usize,
-    pub state: f32,
+pub(crate) struct Axis {
+    pub(crate) k: f32,
+    pub(crate) t_slope: f32,
+    pub(crate) t_min: f32,
+    pub(crate) dt: f32,
+    pub(crate) n_steps: usize,
+    pub(crate) state: f32,
 }
 
 // The loop of `invert`: n times cmd = one_minus_a * cmd + target.
@@ -40,7 +40,7 @@ impl Axis {
 
     // The state after one timestep at an input.
     #[tactic(auto, unfolding(crate::specs::LagAxis::axis_step))]
-    pub fn step(self, input: f32) -> f32
+    pub(crate) fn step(self, input: f32) -> f32
         ensures { result ≡ axis_step self input }
     {
         let one_over_t = self.one_over_t(input);
@@ -49,7 +49,7 @@ impl Axis {
 
     // The input that is to bring the state to `desired`.
     #[tactic(auto, unfolding(crate::specs::LagAxis::axis_invert))]
-    pub fn invert(self, desired: f32) -> f32
+    pub(crate) fn invert(self, desired: f32) -> f32
         ensures { result ≡ axis_invert self desired }
     {
         let one_over_t = self.one_over_t(desired);

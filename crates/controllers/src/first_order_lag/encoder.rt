@@ -1,8 +1,8 @@
-// The encoder lag: the `FirstOrderLag` that control_context.rs makes for a tick length.
+//! The encoder lag: the `FirstOrderLag` that control_context.rs makes for a tick length.
 
-ghost use Rattle.std.specs.Prelude.{◌≡◌, true};
+ghost use Rattle.std.specs.Prelude.{◌≡◌};
 ghost use Rattle.tick.specs.Refusal.{number_of};
-ghost use Rattle.tick.specs.TickLength.{is_tick_length, refusal_of};
+ghost use Rattle.tick.specs.TickLength.{refusal_of};
 ghost use Rattle.controllers.specs.EncoderLag.{duration_to_secs, horizon_over, Castable, n_steps_of, new_lag, lag_of};
 
 use crate::first_order_lag::{FirstOrderLag, FirstOrderLagParams};
@@ -11,6 +11,7 @@ use params::{ENC_LAG_K, ENC_LAG_T_HORIZON, ENC_LAG_T_SLOPE, T_MIN_DEFAULT};
 use tick::refusal::Refusal;
 use tick::tick_length::TickLength;
 
+// Whole microseconds in seconds.
 #[tactic(auto, unfolding(crate::specs::EncoderLag::duration_to_secs))]
 fn duration_to_secs(micros: u32) -> f32
     ensures { result ≡ duration_to_secs micros }
@@ -29,10 +30,9 @@ fn n_steps_of(dt_secs: f32) -> usize
 }
 
 // The lag of a tick length, at rest, both axes alike.
-#[tactic(auto, unfolding(crate::specs::EncoderLag::dt_of, crate::specs::EncoderLag::new_lag, linear::specs::Vector::zeros2))]
+#[tactic(auto, unfolding(crate::specs::EncoderLag::new_lag, linear::specs::Vector::zeros2))]
 fn lag_of(t: TickLength) -> FirstOrderLag
-    requires { is_tick_length t.k ≡ true }
-    ensures { result ≡ new_lag t.k }
+    ensures { result ≡ new_lag t }
 {
     let dt = duration_to_secs(t.micros());
     FirstOrderLag {
@@ -53,9 +53,9 @@ fn lag_of(t: TickLength) -> FirstOrderLag
     }
 }
 
-// What control_context.rs makes by `FirstOrderLag::new_from_horizon`, or refusal 1 where k is not from
-// 1 to 64.
-#[tactic(auto, using(tick::proofs::TickLengthAnswer::made_is), unfolding(crate::specs::EncoderLag::lag_of))]
+/// What control_context.rs makes by `FirstOrderLag::new_from_horizon` for ticks of k/4096 s, or
+/// `Refusal::TickLength` where k is not from 1 to 64.
+#[tactic(auto, unfolding(crate::specs::EncoderLag::lag_of))]
 pub fn new_from_horizon(k: u32) -> Result<FirstOrderLag, Refusal>
     ensures { (result ≡ lag_of k) × (number_of result ≡ refusal_of k) }
 {

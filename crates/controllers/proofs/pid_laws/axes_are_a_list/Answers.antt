@@ -6,5 +6,5 @@ pub returns : goal.returns
 returns c = record {
   calculate = λ n. axes_calculate;
   with_derivative = λ n. axes_with_derivative;
-  reset = λ n. axes_reset;
+  reset = axes_reset;
 }

@@ -15,22 +15,24 @@ pub loop-block-preserved : goal.loop-block-preserved
 loop-block-preserved c =
     let s = c.in-Some.ensures.steps in
     let i = c.loop-block.invariant in
-    let n = c.write_driven-w.ensures in
+    let d = c.drive-line.ensures in
+    let n = c.append_line.ensures in
     record {
       size = s.0.0 ∙ i.size;
       accepted = search rules;
-      going = turn i.going _ _ _ c.write_driven-w.result c.write_driven-w.new.out i.accepted s.1 s.0.1.0 (rw i.size at s.0.1.1) s.0.1.2 (cc n.value) (cc n.out_after) n.len_bound (search rules);
+      going = turn i.going _ _ _ _ _ c.append_line.new.out i.accepted s.1 s.0.1.0 (rw i.size at s.0.1.1) s.0.1.2 d.1 (search rules) (rw d.0 at n.out_after) n.upper_bound (search rules);
     }
 
 pub returns-in-None : goal.returns-in-None
 returns-in-None c =
     let e = emptied c.loop-block.invariant.going (λ h. (c.in-None.ensures.steps h).1.0) in
-    record { value = e.0; out_after = e.1; within = search rules; begins = begins _ _ _ _ e.0 }
+    record { value = (e.0, e.1); out_after = e.2; within = search rules; begins = begins _ _ _ _ e.1 }
 
 pub returns-then-w : goal.returns-then-w
 returns-then-w c =
     let s = c.in-Some.ensures.steps in
     let i = c.loop-block.invariant in
-    let n = c.write_driven-w.ensures in
-    let e = stopped (turn i.going _ _ _ c.write_driven-w.result c.write_driven-w.new.out i.accepted s.1 s.0.1.0 (rw i.size at s.0.1.1) s.0.1.2 (cc n.value) (cc n.out_after) n.len_bound (search rules)) c.if-w.true in
-    record { value = e.0; out_after = e.1; within = search rules; begins = begins _ _ _ _ e.0 }
+    let d = c.drive-line.ensures in
+    let n = c.append_line.ensures in
+    let e = stopped (turn i.going _ _ _ _ _ c.append_line.new.out i.accepted s.1 s.0.1.0 (rw i.size at s.0.1.1) s.0.1.2 d.1 (search rules) (rw d.0 at n.out_after) n.upper_bound (search rules)) c.if-w.true in
+    record { value = (e.0, e.1); out_after = e.2; within = search rules; begins = begins _ _ _ _ e.1 }

@@ -9,5 +9,5 @@ abbrev pub invariant-loop-block : goal.invariant-loop-block
 invariant-loop-block l = record {
   size : chunks_size (take_source l.block-iterator) ≡ 512;
   accepted : l.w.refused ≡ false;
-  going : Going l.fn.pass l.blocks l.fn.out (take_count l.block-iterator) (chunks_rest (take_source l.block-iterator)) l.w l.out;
+  going : Going l.fn.pass l.blocks l.fn.out (take_count l.block-iterator) (chunks_rest (take_source l.block-iterator)) l.pass l.w l.out;
 }

@@ -1,4 +1,4 @@
--- cmd is what the turns so far make of `desired`. Assumes nothing.
+-- cmd is what the turns so far make of `desired`.
 use Rattle.std.proofs.Common.{◌≡◌}
 use Rattle.controllers.specs.LagAxis.{iterated, lag_turn}
 use Rattle.controllers.proofs.first_order_lag.axis.iterate.Given as goal

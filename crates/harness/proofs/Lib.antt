@@ -1,3 +1,0 @@
--- Laws and lemmas.
-pub mod Digits
-pub mod Line
