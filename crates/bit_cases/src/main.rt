@@ -4,24 +4,24 @@
 #![tactic(auto)]
 
 use full_read::read_full;
-use line_text::Line;
-use pass::blocks::drive;
-use pass::driven::Pass;
+use line_text::line::Line;
+use pass::pass::Pass;
 use std::io;
 use tick_block::check::renew_check;
 use tick_block::layout::BLOCK_BYTES;
 use tick_block::words::{put_word, word_at};
 
-// A refusal as a hexadecimal digit. A `u8`, as it is the number that drive's line has.
-fn digit(refusal: u8) -> u8 {
-    char::from_digit(refusal as u32, 16).unwrap_or('?') as u8
+// A refusal's number as a hexadecimal digit.
+fn digit(number: u8) -> u8 {
+    char::from_digit(number as u32, 16).unwrap_or('?') as u8
 }
 
 // How an empty pass answers a block: a dot for a tick, or the refusal.
 fn glyph(block: &[u8]) -> u8 {
-    match drive(Pass::Empty, block).line {
+    let mut pass = Pass::Empty;
+    match pass.drive(block) {
         Line::Tick(_) => b'.',
-        Line::Refused(r) => digit(r.refusal),
+        Line::Refused(r) => digit(r.refusal.number()),
     }
 }
 
