@@ -1,15 +1,17 @@
 #!/usr/bin/env python3
 """Plants the mistakes of mutants.txt one by one and says which of them the comparison sees.
 
-    compare/oracle/mutants.py FIRMWARE_SRC
+    [JOBS=N] [ONLY=WORD] compare/oracle/mutants.py FIRMWARE_SRC
 
 For each mistake the crates are copied, the copy is changed, the program that replays ticks (or drive, for
 what only the text shows) is built from it without proof, and run on passes of 500 ticks for each k from 1 to 64,
 of 6,000 for the powers of two and of none and one, each ended by a refusal; its output is held against the
 firmware's. The sample stored beside the program is tried too. Writes MUTANTS.md, and ends with 1 if a
-mistake goes unseen.
+mistake goes unseen. JOBS mistakes are tried at a time (1); with ONLY those alone whose name has WORD, and no
+page is written.
 """
-import os, shutil, subprocess, sys, tempfile
+import os, queue, shutil, subprocess, sys, tempfile
+from concurrent.futures import ThreadPoolExecutor
 from pathlib import Path
 
 HERE = Path(__file__).resolve().parent
@@ -19,7 +21,7 @@ from unproved import Kit, Unbuilt
 
 REPLAY = "replay_ticks"
 # What only the lines show, beside the crates that drive uses and REPLAY doesn't.
-TEXT_FILES = {"tick/src/count.rt"}
+TEXT_FILES = {"tick/src/tally.rt"}
 REFUSALS = [1, 4, 5, 6, 7, 8, 9, 10]
 # k and ticks of each pass; the longer ones let the cameras run out at exactly 0.5, the shortest
 # bring many refused blocks.
@@ -86,24 +88,35 @@ def seen_by(kit, program, sample, text):
     return count, first
 
 
-def planted(crates, name, edits):
-    """A copy of the crates, with the mistake."""
+def changed(name, edits):
+    """The files with the mistake."""
+    sources = {}
+    for file, old, new, more in edits:
+        source = sources.get(file) or (TOP / "crates" / file).read_text()
+        if source.count(old) != 1:
+            sys.exit(f"{name}: the old text stands {source.count(old)} times in {file}")
+        sources[file] = source.replace(old, new) + more
+    return sources
+
+
+def planted(crates, sources):
+    """A copy of the crates, with these files changed."""
     shutil.rmtree(crates, ignore_errors=True)
     leave = shutil.ignore_patterns("out", "specs", "proofs", "must-fail", "data", "stdin", "stdout")
     shutil.copytree(TOP / "crates", crates, ignore=leave)
-    for file, old, new, more in edits:
-        source = (crates / file).read_text()
-        if source.count(old) != 1:
-            sys.exit(f"{name}: the old text stands {source.count(old)} times in {file}")
-        (crates / file).write_text(source.replace(old, new) + more)
+    for file, source in sources.items():
+        (crates / file).write_text(source)
 
 
-def tried(kit, room, program, name, sample, stored):
+def tried(kit, program, name, sources, sample, stored):
     """How many passes see the mistake, where the first does, and how many stored ones."""
+    room = kit.room
+    planted(room / "crates", sources)
     try:
         kit.build(program, room / "crates", room / "program")
     except Unbuilt as it:
-        sys.exit(f"{name}: does not compile\n" + "\n".join(str(it).strip().splitlines()[-3:]))
+        print(f"{name} ({program}): does not compile\n" + "\n".join(str(it).strip().splitlines()[-9:]), flush=True)
+        return 0, "does not compile", None
     count, first = seen_by(kit, room / "program", sample, program == "drive")
     gate = None if program == "drive" else seen_by(kit, room / "program", stored, False)[0]
     print(f"{name} ({program}): {count} of {len(sample)} passes; {first}; stored {gate}", flush=True)
@@ -114,28 +127,39 @@ def main():
     if len(sys.argv) != 2:
         sys.exit(__doc__)
     os.environ["FIRMWARE_SRC"] = str(Path(sys.argv[1]).resolve())
-    only = os.environ.get("ONLY", "")
+    only, jobs = os.environ.get("ONLY", ""), int(os.environ.get("JOBS", "1"))
     room = Path(tempfile.mkdtemp())
-    rows = []
+    mistakes = [(*it, changed(it[0], it[2])) for it in mutants() if only in it[0]]
     try:
-        kit = Kit(room)
+        kits = queue.Queue()
+        for job in range(jobs):
+            (room / str(job)).mkdir()
+            kits.put(Kit(room / str(job)))
         sample = firmware(room)
         words = TOP / "crates" / REPLAY
         stored = [("stored", words / "stdin", (words / "stdout").read_bytes(), b"")]
-        text_only = {"drive", *kit.own("drive")} - {REPLAY, *kit.own(REPLAY)}
-        planted(room / "crates", "as it is", [])
-        for program in ("drive", REPLAY):
-            count, _, gate = tried(kit, room, program, "as it is", sample, stored)
-            if count or gate:
-                sys.exit("the programs differ from the firmware before any mistake is planted")
-        for name, breaks, edits in mutants():
-            if only not in name:
-                continue
-            planted(room / "crates", name, edits)
+        of = kits.queue[0]
+        text_only = {"drive", *of.own("drive")} - {REPLAY, *of.own(REPLAY)}
+
+        def with_kit(*it):
+            kit = kits.get()
+            try:
+                return tried(kit, *it, sample, stored)
+            finally:
+                kits.put(kit)
+
+        def row(mistake):
+            name, breaks, edits, sources = mistake
             files = list(dict.fromkeys(file for file, *_ in edits))
             text = "letter" in name or all(f.split("/")[0] in text_only or f in TEXT_FILES for f in files)
-            program = "drive" if text else REPLAY
-            rows.append((name, breaks, files, *tried(kit, room, program, name, sample, stored)))
+            return name, breaks, files, *with_kit("drive" if text else REPLAY, name, sources)
+
+        for program in ("drive", REPLAY):
+            count, _, gate = with_kit(program, "as it is", {})
+            if count or gate:
+                sys.exit("the programs differ from the firmware before any mistake is planted")
+        with ThreadPoolExecutor(jobs) as pool:
+            rows = list(pool.map(row, mistakes))
     finally:
         shutil.rmtree(room)
     if not only:
