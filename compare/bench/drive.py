@@ -22,54 +22,46 @@ from unproved import Kit
 TICKS = 400_000
 # file, old text, new text: both keep what the line needs alive.
 NO_TEXT = (
-    "drive_text/src/driven.rt",
-    "    let len = write_line(&mut buf, line);\n",
-    "    let len = one_byte(&mut buf, line);\n",
+    "pass/src/batch.rt",
+    "    let len = write_line(line, room);\n",
+    "    let len = one_byte(line, room);\n",
     """
-use line_text::Ending;
-fn one_byte(buf: &mut [u8; 128], line: Line) -> usize {
+fn one_byte(line: Line, out: &mut [u8; LINE]) -> usize {
     match line {
-        Line::Tick(t) => {
-            let ending = t.ending;
-            match ending {
-                Ending::Wheels(v) => {
-                    buf[0] = if v.x + v.y + v.z + v.w > 0.0 { t.letter } else { b'0' };
-                    1
-                }
-                Ending::Failed(r) => write_line(buf, line),
+        Line::Tick(t) => match t.ending {
+            Ok(v) => {
+                out[0] = if v.x + v.y + v.z + v.w > 0.0 { t.action.letter() } else { b'0' };
+                1
             }
-        }
-        Line::Refused(r) => write_line(buf, line),
+            Err(_) => write_line(line, out),
+        },
+        Line::Refused(_) => write_line(line, out),
     }
 }
 """,
 )
 NO_TICK = (
-    "drive_blocks/src/lib.rt",
-    "    let c = driver_of(pass, b)?;\n    Ok(drive_on(c, b))\n",
-    "    let c = in_any_order(pass, b)?;\n    Ok(look_only(c, b))\n",
+    "pass/src/pass.rt",
+    "        let mut c = self.driver_of(&b)?;\n        let line = drive_tick(&mut c, &b.inputs)?;\n",
+    "        let c = self.in_any_order(&b)?;\n        let line = look_only(&c, &b);\n",
     """
-// No tick is counted, so that every block but the first comes out of order.
-fn in_any_order(pass: Pass, b: TickBlock) -> Result<BodyController, Refusal> {
-    match (driver_of(pass, b), pass) {
-        (Err(Refusal::Order), Pass::Driving(c)) => Ok(c),
-        (found, _) => found,
+impl Pass {
+    // No tick is counted, so that every block but the first comes out of order.
+    fn in_any_order(&self, b: &TickBlock) -> Result<BodyController, Refusal> {
+        match (self.driver_of(b), self) {
+            (Err(Refusal::Order), Pass::Driving(c)) => Ok(*c),
+            (found, _) => found,
+        }
     }
 }
 
-fn look_only(c: BodyController, b: TickBlock) -> Driven {
-    let sight = b.inputs.sight;
-    let wheels = sight.wheel_vel_meas;
-    let line = line_text::TickLine {
+fn look_only(c: &BodyController, b: &TickBlock) -> TickLine {
+    TickLine {
         number: b.number,
-        letter: b'Q',
+        action: tick::action::GateAction::NoVision,
         active: c.vision_active(),
         recovering: c.tracking_divergence_recovery_active(),
-        ending: line_text::Ending::Wheels(wheels),
-    };
-    Driven {
-        line: line_text::Line::Tick(line),
-        pass: Pass::Driving(c),
+        ending: Ok(b.inputs.sight.wheel_vel_meas),
     }
 }
 """,
