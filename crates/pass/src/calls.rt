@@ -29,7 +29,9 @@ fn drive_on(c: &mut BodyController, i: &TickInput) -> Result<Vector4f, Refusal>
 
 // A tick's line, with the marks at its end. Where sight refuses the tick, the controller stays.
 pub(crate) fn drive_tick(c: &mut BodyController, i: &TickInput) -> Result<TickLine, Refusal>
-    ensures { MatchResult (ticked c.old i.now) (λ t. (result ≡ Ok t.line) × (c.new ≡ t.controller)) (λ r. (result ≡ Err r) × (c.new ≡ c.old)) }
+    ensures { MatchResult (ticked c.old i.now)
+        (λ t. (result ≡ Ok t.line) × (c.new ≡ t.controller))
+        (λ r. (result ≡ Err r) × (c.new ≡ c.old)) }
 {
     let number = c.totals().ticks;
     let Called { answer, controller } = c.sight(i.sight);

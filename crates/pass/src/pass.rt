@@ -55,7 +55,9 @@ impl Pass {
 
     // Drives a block, or answers why it is refused: then the pass stays as it is.
     fn take(&mut self, block: &[u8]) -> Result<TickLine, Refusal>
-        ensures { MatchResult (taken self.old block.now) (λ t. (result ≡ Ok t.line) × (self.new ≡ Driving t.controller)) (λ r. (result ≡ Err r) × (self.new ≡ self.old)) }
+        ensures { MatchResult (taken self.old block.now)
+            (λ t. (result ≡ Ok t.line) × (self.new ≡ Driving t.controller))
+            (λ r. (result ≡ Err r) × (self.new ≡ self.old)) }
     {
         let b = TickBlock::read(block)?;
         let mut c = self.driver_of(&b)?;
