@@ -45,5 +45,4 @@ batch_holds n bytes = every_pass _ _ _ (passed n Empty bytes [] [] (unfold Passe
 
 -- what `drive_batch` leaves holds with it
 pub begins : (out : List ℕ) (p : Pass) (bytes : List ℕ) (q : Pass) → q ≡ (batch_into out p bytes).pass → p ≡ Empty → PassHoldsOf (batch_into out p bytes) q
-unfolding batch_into
 begins out p bytes q a e = rw (a, e) (batch_holds (length out / 128) bytes)

@@ -51,7 +51,6 @@ step n p [] h = absurd (not-suc-le-zero h)
 step n p (b ∷ bytes) h = refl
 
 behind : (n : ℕ) (bytes : List ℕ) → drop (n * 512) (behind_first bytes) ≡ drop (suc n * 512) bytes
-unfolding behind_first
 behind n bytes = let e : 512 + n * 512 ≡ suc n * 512 = omega arith in drop-drop (n * 512) 512 bytes ∙ ap (λ (k : ℕ). drop k bytes) e
 
 -- n blocks, and then m of the bytes that are left
@@ -76,16 +75,15 @@ stays n m p bytes e = split n m p bytes ∙ rw (e, none_left) (followed_by-nothi
 prefix : (n : ℕ) (p : Pass) (a b : List ℕ) → n * 512 ≤ length a → batch_of n p (a ++ b) ≡ batch_of n p a
 prefix zero p a b h = unfold batch_of in refl
 prefix (suc n) p a b h =
-    let first : first_block (a ++ b) ≡ first_block a = unfold first_block in take-append-le 512 a b (omega arith) in
-    let others : behind_first (a ++ b) ≡ behind_first a ++ b = unfold behind_first in drop-append-le 512 a b (omega arith) in
-    let left : n * 512 ≤ length (behind_first a) = unfold behind_first in simp length-drop (omega arith) in
+    let first : first_block (a ++ b) ≡ first_block a = take-append-le 512 a b (omega arith) in
+    let others : behind_first (a ++ b) ≡ behind_first a ++ b = drop-append-le 512 a b (omega arith) in
+    let left : n * 512 ≤ length (behind_first a) = simp length-drop (omega arith) in
     let some : 0 < length (a ++ b) = simp length-append (omega arith) in
     step n p (a ++ b) some
     ∙ rw (first, others) (ap (followed_by (one_block p (first_block a))) (prefix n (driven p (first_block a)).pass (behind_first a) b left))
     ∙ sym (step n p a (omega arith))
 
 pub room_is_enough : RoomIsEnough
-unfolding whole_of
 room_is_enough n p bytes h =
     let all : length bytes ≤ length bytes * 512 = omega arith in
     sym (stays n (length bytes) p bytes (drop_of_length-le bytes h))
@@ -130,7 +128,6 @@ flatten_on p block others rest k = go (is_refused (driven p block).line) refl
     go false e f = unfold flatten in ap (λ (l : List ℕ). block ++ l) (k f)
 
 front : (n : ℕ) (bytes : List ℕ) → first_block bytes ++ take (n * 512) (behind_first bytes) ≡ take (suc n * 512) bytes
-unfolding first_block behind_first
 front n bytes = let e : 512 + n * 512 ≡ suc n * 512 = omega arith in sym (take-add 512 (n * 512) bytes) ∙ ap (λ (k : ℕ). take k bytes) e
 
 all_driven : (n : ℕ) (p : Pass) (bytes : List ℕ) → (batch_of n p bytes).over ≡ false → flatten (batch_of n p bytes).blocks ≡ take (n * 512) bytes
@@ -142,7 +139,6 @@ all_driven (suc n) p (b ∷ bytes) f =
     flatten_on p (first_block l) (take (n * 512) (behind_first l)) _ (all_driven n (driven p (first_block l)).pass (behind_first l)) f ∙ front n l
 
 pub no_byte_lost : NoByteLost
-unfolding whole_of
 no_byte_lost p bytes f =
     let all : length bytes ≤ length bytes * 512 = omega arith in
     all_driven (length bytes) p bytes f ∙ take_all (length bytes * 512) bytes all

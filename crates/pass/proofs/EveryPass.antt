@@ -35,7 +35,7 @@ use Rattle.tick_block.specs.Block as Blocks
 use Rattle.pass.specs.declared.pass.Pass.{Pass}
 use Rattle.pass.specs.declared.pass.Pass.TheVariants.{Empty, Driving}
 use Rattle.pass.specs.Tick.{ended_by, ending_of, if_accepted, steered, planned, ticked_with, ticked}
-use Rattle.pass.specs.Pass.{next_number, totals_of, Driven, driver_of, ticked_by, taken_with, taken, refused_by, driven_with, driven}
+use Rattle.pass.specs.Pass.{next_number, totals_of, Driven, driver_of, ticked_by, taken_with, refused_by, driven_with, driven}
 use Rattle.pass.specs.PlainPass.{mark_of, PlainPass, none, at, PlainDriven, reply_after, refusal_in, ended_at, at_finish, at_steer, at_plan, plain_tick, plain_ticks, plain_counts, refused_at, plain_take, plain_read, plain_pass, plain_marks, Passed, marks_of, StandsOn, EveryPass}
 use Rattle.pass.proofs.Read.{valid_read}
 
@@ -81,7 +81,6 @@ module _ (start : Start) (number : ℕ) (action : GateAction) where
   shown q = let t = ended_by q number action in record { line = Lines.Tick t.line; pass = Driving t.controller }
 
   ended_agrees : (calls : List Call) (q : Called Finished) (n : ℕ) → Behind start calls q.controller → number_of q.answer ≡ n → Agrees (shown q) (ended_at start calls number (Some action) n)
-  unfolding ended_by
   ended_agrees calls q n b e = record { mark = rw (ending q.answer ∙ e, ← stands start calls q.controller b) refl; pass = b }
     where
       ending : (a : Result Finished Refusal) → number_of (ending_of a) ≡ number_of a
@@ -100,7 +99,6 @@ module _ (start : Start) (number : ℕ) (action : GateAction) where
       ending (Err r) = refl
 
   steer_agrees : (calls : List Call) (c : BodyController) (i : TickInput) → Behind start calls c → Agrees (shown (steered c i)) (at_steer start calls number (Some action) i)
-  unfolding steered
   steer_agrees calls c i b = go (steer_of c i.steer).answer refl
     where
       meets : Meets c (steer i.steer) (steer_reply (steer_of c i.steer).answer) (steer_of c i.steer).controller
@@ -112,7 +110,6 @@ module _ (start : Start) (number : ℕ) (action : GateAction) where
       go (Err r) e = rw (sym (replied start calls c b (steer i.steer) _ _ meets) ∙ ap steer_reply e) (ended_agrees (steer i.steer ∷ calls) (refused r (steer_of c i.steer).controller) _ (after start calls c b (steer i.steer) _ _ meets) refl)
 
   plan_agrees : (calls : List Call) (c : BodyController) (i : TickInput) → Behind start calls c → Agrees (shown (planned c i)) (at_plan start calls number (Some action) i)
-  unfolding planned
   plan_agrees calls c i b = go (plan_of c i.plan).answer refl
     where
       meets : Meets c (plan i.plan) (plan_reply (plan_of c i.plan).answer) (plan_of c i.plan).controller
@@ -144,7 +141,6 @@ refused_agrees r p q m = record { mark = rw (ticks_beside p q m) refl; pass = m 
 -- a tick on a controller behind these calls, of a pass where the plain drive is
 tick_agrees : (p : Pass) (q : PlainPass) → Beside p q → (start : Start) (calls : List Call) (c : BodyController) (i : TickInput) → Behind start calls c
     → Agrees (driven_with (ticked c i) p) (plain_tick q start calls i)
-unfolding ticked plain_tick
 tick_agrees p q beside start calls c i m = go (sight_of c i.sight).answer refl
   where
     meets : Meets c (sight i.sight) (sight_reply (sight_of c i.sight).answer) (sight_of c i.sight).controller
@@ -161,20 +157,21 @@ tick_agrees p q beside start calls c i m = go (sight_of c i.sight).answer refl
 
 -- the first block
 first_agrees : (b : TickBlock) → IsStart (record { tick_length = b.tick_length }) → Agrees (driven_with (ticked_by (driver_of Empty b) b) Empty) (plain_take none b)
-unfolding driver_of
 first_agrees b valid = go (b.number == 0)
   where
     start : Start
     start = record { tick_length = b.tick_length }
 
+    begun : Behind start [] (started start)
+    begun = record { valid = valid; entries = []; are = unfold calls_of in refl; made = unfold Made in refl }
+
     go : (zero : Bool) → Agrees (driven_with (ticked_by (if zero then Ok (started (record { tick_length = b.tick_length })) else Err Why.Order) b) Empty) (if zero then plain_tick none (record { tick_length = b.tick_length }) [] b.inputs else refused_at 10 none)
-    go true = tick_agrees Empty none tt _ [] _ b.inputs (record { valid = valid; entries = []; are = unfold calls_of in refl; made = unfold Made in refl })
+    go true = tick_agrees Empty none tt start [] (started start) b.inputs begun
     go false = refused_agrees Why.Order Empty none tt
 
 -- a later block
 later_agrees : (start : Start) (calls : List Call) (c : BodyController) (b : TickBlock) → Behind start calls c
     → Agrees (driven_with (ticked_by (driver_of (Driving c) b) b) (Driving c)) (plain_take (at start calls) b)
-unfolding driver_of
 later_agrees start calls c b m =
     rw (
       ap (λ (s : Start). b.tick_length == s.tick_length) (follows_plain_drive start m.entries c m.valid m.made).chosen,
@@ -189,7 +186,6 @@ later_agrees start calls c b m =
     go false next = refused_agrees Why.OtherTickLength (Driving c) (at start calls) m
 
 block_agrees : (bytes : List ℕ) (p : Pass) (q : PlainPass) → Beside p q → Agrees (driven p bytes) (plain_read (Blocks.block_read bytes) q)
-unfolding driven taken
 block_agrees bytes p q m = go (Blocks.block_read bytes) refl p q m
   where
     go : (a : Result TickBlock Refusal) → Blocks.block_read bytes ≡ a → (p : Pass) (q : PlainPass) → Beside p q → Agrees (driven_with (taken_with a p) p) (plain_read a q)

@@ -25,7 +25,7 @@ pub record Going (p : Pass) (bytes out₀ : List ℕ) (n : ℕ) (left : List ℕ
   pub same : length out ≡ length out₀
 
 pub begin : (p : Pass) (bytes out : List ℕ) → Going p bytes out (length out / 128) bytes p (record { len = 0; refused = false }) out
-unfolding batch_into answer_of text_of
+unfolding text_of
 begin p bytes out = record { so_far = nothing p; stands = refl; answer = refl; text = refl; whole = refl; room = omega arith; same = refl }
 
 -- ---- a turn
@@ -33,11 +33,9 @@ begin p bytes out = record { so_far = nothing p; stands = refl; answer = refl; t
 -- the piece that is cut off the front is the first block
 module _ (block others : List ℕ) (e : length block ≡ min 512 (length (block ++ others))) where
   first_is : first_block (block ++ others) ≡ block
-  unfolding first_block
   first_is = sym (take_min 512 (block ++ others)) ∙ rw (← e) (take-append_seam block others)
 
   behind_is : behind_first (block ++ others) ≡ others
-  unfolding behind_first
   behind_is = sym (drop_min 512 (block ++ others)) ∙ rw (← e) (drop-append_seam block others)
 
 -- the text of a block's line, and the answer with it behind n bytes
@@ -54,13 +52,13 @@ module _ (t : Batched) (block out out₀ : List ℕ) (o : t.over ≡ false) wher
   text_more = rw o (text_of_append t.lines (one_block t.pass block).lines ∙ rw append-nil refl)
 
   answer_more : next_of t.pass (answer_of t).len block ≡ answer_of (followed_by t (one_block t.pass block))
-  unfolding answer_of next_of
+  unfolding next_of
   answer_more = rw (text_more, o, length-append) refl
 
   out_more : out ≡ text_of t.lines ++ drop (answer_of t).len out₀
       → take (answer_of t).len out ++ block_text t.pass block ++ drop (next_of t.pass (answer_of t).len block).len out
       ≡ text_of (followed_by t (one_block t.pass block)).lines ++ drop (next_of t.pass (answer_of t).len block).len out₀
-  unfolding answer_of next_of
+  unfolding next_of
   out_more e =
       let s = text_of t.lines in
       let n = length (block_text t.pass block) in
@@ -77,7 +75,6 @@ none (suc n) p bytes h = rw (nil_from_length bytes (h (omega arith))) refl
 module _ {p : Pass} {bytes out₀ out left : List ℕ} {n : ℕ} {q : Pass} {w : Written} (g : Going p bytes out₀ n left q w out) where
   -- the blocks so far are over where the answer says so
   over_is : (o : Bool) → w.refused ≡ o → g.so_far.over ≡ o
-  unfolding answer_of
   over_is o e = sym (ap (λ (a : Written). a.refused) g.answer) ∙ e
 
   pub turn : (m : ℕ) (block others : List ℕ) (d : Pass) (r : Written) (after : List ℕ) → w.refused ≡ false

@@ -13,14 +13,14 @@ is_refused (Tick t) = false
 is_refused (Refused r) = true
 
 -- how long a line's text is, and whether its block was refused
-unfoldable pub written : Line → Written
+abbrev pub written : Line → Written
 written line = record { len = length (line_text line); refused = is_refused line }
 
 -- the first block of the bytes, shorter than 512 where they are, and what stands behind it
-unfoldable pub first_block : List ℕ → List ℕ
+abbrev pub first_block : List ℕ → List ℕ
 first_block bytes = take 512 bytes
 
-unfoldable pub behind_first : List ℕ → List ℕ
+abbrev pub behind_first : List ℕ → List ℕ
 behind_first bytes = drop 512 bytes
 
 -- the blocks that were driven and their lines, in order, the pass after them, and whether a refusal ended the reading
@@ -49,7 +49,7 @@ batch_of (suc n) p (b ∷ bytes) =
     followed_by first (batch_of n first.pass (behind_first (b ∷ bytes)))
 
 -- all of the bytes: there are no more blocks than bytes
-unfoldable pub whole_of : Pass → List ℕ → Batched
+abbrev pub whole_of : Pass → List ℕ → Batched
 whole_of p bytes = batch_of (length bytes) p bytes
 
 -- the text of lines one behind the other
@@ -60,9 +60,9 @@ text_of (line ∷ lines) = line_text line ++ text_of lines
 -- ---- `drive_batch`
 
 -- as many blocks as `out` has room for, at 128 bytes a line
-unfoldable pub batch_into : List ℕ → Pass → List ℕ → Batched
+abbrev pub batch_into : List ℕ → Pass → List ℕ → Batched
 batch_into out p bytes = batch_of (length out / 128) p bytes
 
 -- the length of the text, and whether a refusal ended the reading
-unfoldable pub answer_of : Batched → Written
+abbrev pub answer_of : Batched → Written
 answer_of t = record { len = length (text_of t.lines); refused = t.over }

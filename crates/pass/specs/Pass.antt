@@ -32,7 +32,7 @@ pub record Driven : Type 0 where
 
 -- the controller that is to drive a block: the first block's number must be 0, and its tick length makes the controller; a later block's tick length
 -- is to be the controller's, and then its number the next
-unfoldable pub driver_of : Pass → TickBlock → Result BodyController Refusal
+abbrev pub driver_of : Pass → TickBlock → Result BodyController Refusal
 driver_of Empty b = if b.number == 0 then Ok (started (record { tick_length = b.tick_length })) else Err Why.Order
 driver_of (Driving c) b = result_and (order_tested b.tick_length c.context.start.tick_length b.number c.tally.ticks) (Ok c)
 
@@ -46,7 +46,7 @@ taken_with (Ok b) p = ticked_by (driver_of p b) b
 taken_with (Err r) p = Err r
 
 -- the tick of an accepted block, or why the block is refused
-unfoldable pub taken : Pass → List ℕ → Result Ticked Refusal
+abbrev pub taken : Pass → List ℕ → Result Ticked Refusal
 taken p bytes = taken_with (block_read bytes) p
 
 -- a refused block: the number that its tick would have had, and the refusal; the pass stays
@@ -58,5 +58,5 @@ driven_with (Ok t) p = record { line = Lines.Tick t.line; pass = Driving t.contr
 driven_with (Err r) p = refused_by r p
 
 -- a block's line and the next pass
-unfoldable pub driven : Pass → List ℕ → Driven
+abbrev pub driven : Pass → List ℕ → Driven
 driven p bytes = driven_with (taken p bytes) p

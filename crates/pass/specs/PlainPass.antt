@@ -102,7 +102,7 @@ at_plan start calls number action i =
     else at_steer start (plan i.plan ∷ calls) number action i
 
 -- of a pass p
-unfoldable pub plain_tick : PlainPass → Start → List Call → TickInput → PlainDriven
+abbrev pub plain_tick : PlainPass → Start → List Call → TickInput → PlainDriven
 plain_tick p start calls i =
     if is_refused (reply_after start calls (sight i.sight))
     then refused_at (refusal_in (reply_after start calls (sight i.sight))) p

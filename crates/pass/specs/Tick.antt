@@ -28,7 +28,7 @@ abbrev pub ending_of : Result Finished Refusal → Result Vector4f Refusal
 ending_of a = result_map_both (λ (f : Finished). f.outputs.wheel_vel_out) (λ r. r) a
 
 -- the line of a tick that ended with this call, with the marks at its end
-unfoldable pub ended_by : Called Finished → ℕ → GateAction → Ticked
+abbrev pub ended_by : Called Finished → ℕ → GateAction → Ticked
 ended_by last number action = record {
   line = record {
     number = number;
@@ -45,10 +45,10 @@ abbrev pub if_accepted : {A B : Type 0} → Result A Refusal → BodyController 
 if_accepted (Ok a) c next = next c
 if_accepted (Err r) c next = refused r c
 
-unfoldable pub steered : BodyController → TickInput → Called Finished
+abbrev pub steered : BodyController → TickInput → Called Finished
 steered c i = let s = steer_of c i.steer in if_accepted s.answer s.controller (λ d. finish_of d i.finish)
 
-unfoldable pub planned : BodyController → TickInput → Called Finished
+abbrev pub planned : BodyController → TickInput → Called Finished
 planned c i = let p = plan_of c i.plan in if_accepted p.answer p.controller (λ d. steered d i)
 
 -- c is the controller before sight, and d the one after it; where sight refuses, so is the block
@@ -56,5 +56,5 @@ abbrev pub ticked_with : Result Sighted Refusal → BodyController → BodyContr
 ticked_with (Ok s) c d i = Ok (ended_by (planned d i) c.tally.ticks s.action)
 ticked_with (Err r) c d i = Err r
 
-unfoldable pub ticked : BodyController → TickInput → Result Ticked Refusal
+abbrev pub ticked : BodyController → TickInput → Result Ticked Refusal
 ticked c i = let s = sight_of c i.sight in ticked_with s.answer c s.controller i

@@ -25,10 +25,10 @@ fn is_refused(line: Line) -> bool
 }
 
 /// Drives a block, and puts its line at the start of `out`; what stands behind the line stays.
-#[tactic(auto, unfolding(crate::specs::Batch::written))]
 pub fn drive_block(pass: &mut Pass, block: &[u8], out: &mut [u8; LINE]) -> Written
     ensures value { let d = driven pass.old block.now in (result ≡ written d.line) × (pass.new ≡ d.pass) }
-    ensures out_after { let text = line_text (driven pass.old block.now).line in out.new ≡ text ++ drop (length text) out.old }
+    ensures out_after { let text = line_text (driven pass.old block.now).line in
+        out.new ≡ text ++ drop (length text) out.old }
     ensures len_bound { (result.len ≤ 128) × Within result.len out.new }
 {
     let line = pass.drive(block);

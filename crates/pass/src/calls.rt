@@ -18,7 +18,6 @@ fn keep<A: Drop>(c: &mut BodyController, called: Called<A>) -> Result<A, Refusal
 }
 
 // The calls behind sight: the wheel speeds, or the refusal that ended the tick.
-#[tactic(auto, unfolding(crate::specs::Tick::planned, crate::specs::Tick::steered))]
 fn drive_on(c: &mut BodyController, i: &TickInput) -> Result<Vector4f, Refusal>
     ensures { let last = planned c.old i.now in (result ≡ ending_of last.answer) × (c.new ≡ last.controller) }
 {
@@ -28,10 +27,11 @@ fn drive_on(c: &mut BodyController, i: &TickInput) -> Result<Vector4f, Refusal>
     Ok(finished.outputs.wheel_vel_out)
 }
 
-/// A tick's line, with the marks at its end. Where sight refuses the tick, the controller stays.
-#[tactic(auto, unfolding(crate::specs::Tick::ticked, crate::specs::Tick::ended_by))]
-pub fn drive_tick(c: &mut BodyController, i: &TickInput) -> Result<TickLine, Refusal>
-    ensures { MatchResult (ticked c.old i.now) (λ t. (result ≡ Ok t.line) × (c.new ≡ t.controller)) (λ r. (result ≡ Err r) × (c.new ≡ c.old)) }
+// A tick's line, with the marks at its end. Where sight refuses the tick, the controller stays.
+pub(crate) fn drive_tick(c: &mut BodyController, i: &TickInput) -> Result<TickLine, Refusal>
+    ensures { MatchResult (ticked c.old i.now)
+        (λ t. (result ≡ Ok t.line) × (c.new ≡ t.controller))
+        (λ r. (result ≡ Err r) × (c.new ≡ c.old)) }
 {
     let number = c.totals().ticks;
     let Called { answer, controller } = c.sight(i.sight);

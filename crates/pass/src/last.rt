@@ -11,7 +11,7 @@ use line_text::totals::write_totals;
 /// Puts the last line at the start of `out`, and answers how long it is: ticks, and the counts in the order Q to R.
 pub fn write_last(pass: &Pass, out: &mut [u8; LINE]) -> usize
     ensures value { result ≡ length (totals_text (totals_of pass.now)) }
-    ensures out_after { out.new ≡ totals_text (totals_of pass.now) ++ drop (length (totals_text (totals_of pass.now))) out.old }
+    ensures out_after { let text = totals_text (totals_of pass.now) in out.new ≡ text ++ drop (length text) out.old }
     ensures upper_bound { (result ≤ 128) × Within result out.new }
 {
     write_totals(pass.totals(), out)

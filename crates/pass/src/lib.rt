@@ -3,7 +3,7 @@
 #![tactic(auto)]
 
 pub mod batch; // batch.rt: a block or a batch of blocks, with the text of their lines
-pub mod calls; // calls.rt: a tick's four calls
+mod calls; // calls.rt: a tick's four calls
 pub mod every_batch; // every_batch.rt: the theorems on batches, in a contract
 pub mod every_list; // every_list.rt: the theorem on lists of blocks, in a contract
 pub mod last; // last.rt: the last line of a pass

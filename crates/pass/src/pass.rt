@@ -38,7 +38,6 @@ impl Pass {
     }
 
     // The controller that is to drive a block.
-    #[tactic(auto, unfolding(crate::specs::Pass::driver_of))]
     fn driver_of(&self, b: &TickBlock) -> Result<BodyController, Refusal>
         ensures { result ≡ driver_of self.now b.now }
     {
@@ -55,9 +54,10 @@ impl Pass {
     }
 
     // Drives a block, or answers why it is refused: then the pass stays as it is.
-    #[tactic(auto, unfolding(crate::specs::Pass::taken))]
     fn take(&mut self, block: &[u8]) -> Result<TickLine, Refusal>
-        ensures { MatchResult (taken self.old block.now) (λ t. (result ≡ Ok t.line) × (self.new ≡ Driving t.controller)) (λ r. (result ≡ Err r) × (self.new ≡ self.old)) }
+        ensures { MatchResult (taken self.old block.now)
+            (λ t. (result ≡ Ok t.line) × (self.new ≡ Driving t.controller))
+            (λ r. (result ≡ Err r) × (self.new ≡ self.old)) }
     {
         let b = TickBlock::read(block)?;
         let mut c = self.driver_of(&b)?;
@@ -67,7 +67,6 @@ impl Pass {
     }
 
     /// Drives a block, and answers its line. A refused block leaves the pass as it is.
-    #[tactic(auto, unfolding(crate::specs::Pass::driven))]
     pub fn drive(&mut self, block: &[u8]) -> Line
         ensures { let d = driven self.old block.now in (result ≡ d.line) × (self.new ≡ d.pass) }
     {

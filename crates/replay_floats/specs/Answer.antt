@@ -1,4 +1,4 @@
--- What each operation answers to an argument, both by their bits. Assumes nothing.
+-- What each operation answers to an argument, both by their bits.
 use Rattle.std.specs.Prelude.{ℕ, Float}
 use Rattle.std.specs.Float.{binary32}
 use Rattle.std.specs.Float.Ieee.{add, sub, to_bits, of_bits}

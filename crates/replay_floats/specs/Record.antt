@@ -1,7 +1,7 @@
--- Records of a block of bytes: an argument and the answer wanted, a word each. Assumes nothing.
+-- Records of a block of bytes: an argument and the answer wanted, a word each.
 use Rattle.std.specs.Prelude.{ℕ, ◌+◌, ◌*◌, ◌/◌, Bool, not, List, length, map, ◌==◌, Float}
 use Rattle.std.specs.List.{range_with_len}
-use Rattle.tick_block.specs.Word.{word_at}
+use Rattle.tick_block.specs.Words.{word_at}
 use Rattle.replay_floats.specs.declared.record.Record.{Record}
 use Rattle.replay_floats.specs.Answer.{answer_of}
 

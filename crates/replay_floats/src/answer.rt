@@ -1,4 +1,4 @@
-// What is computed of an argument, each list its own operation. Arguments and answers are bits.
+//! What is computed of an argument, each list its own operation. Arguments and answers are bits.
 ghost use Rattle.std.specs.Prelude.{◌≡◌, Float};
 ghost use Rattle.replay_floats.specs.Answer.{answer_of, square_root_of, remainder_of, itself, twice, difference};
 
@@ -6,7 +6,7 @@ use ieee754::bits::{from_bits, to_bits};
 use ieee754::remainder::remainder;
 use ieee754::root::sqrt;
 
-// What a list makes of each argument.
+/// What a list makes of each argument.
 pub trait Operation {
     ghost value: { Float → Float };
 
@@ -14,6 +14,7 @@ pub trait Operation {
         ensures { result ≡ value x };
 }
 
+/// The square root.
 pub struct Root;
 
 impl Operation for Root {
@@ -24,6 +25,7 @@ impl Operation for Root {
     }
 }
 
+/// The remainder by tau.
 pub struct Remainder;
 
 impl Operation for Remainder {
@@ -34,7 +36,7 @@ impl Operation for Remainder {
     }
 }
 
-// The float of a word, and its word again.
+/// The float of a word, and its word again.
 pub struct Word;
 
 impl Operation for Word {
@@ -45,7 +47,7 @@ impl Operation for Word {
     }
 }
 
-// The float of a word, added to itself.
+/// The float of a word, added to itself.
 pub struct Twice;
 
 impl Operation for Twice {
@@ -56,7 +58,7 @@ impl Operation for Twice {
     }
 }
 
-// The float of a word, less itself: the machine's own NaN where it is infinite.
+/// The float of a word, less itself: the machine's own NaN where it is infinite.
 pub struct Difference;
 
 impl Operation for Difference {

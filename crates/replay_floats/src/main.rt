@@ -1,5 +1,5 @@
-// Runs the lists of data/: roots and remainders against those of Rust's libm,
-// words both ways. vectors/ writes the lists. Prints a line for each list, and the first mismatches.
+//! Program `replay_floats`: runs the lists of data/, roots and remainders against those of Rust's libm, words both ways
+//! (compare/vectors writes the lists). Prints a line for each list, and the first mismatches.
 #![tactic(auto)]
 
 mod answer; // answer.rt: what is computed of an argument
@@ -15,7 +15,7 @@ use std::io;
 
 // Reads one block of a list, and adds its records and mismatches to `tally`.
 fn run_block<O: Operation>(rt: &HostRuntime, list: &mut File, tally: Tally) -> io::Result<Tally> {
-    // 1024 records. An array, since memory is fixed: its first n bytes are what was read.
+    // 1024 records.
     let mut block = [0; 8192];
     let n = read_full(list, &mut block)?;
     let found = record::mismatches::<O>(&block[..n]);

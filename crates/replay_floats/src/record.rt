@@ -1,4 +1,4 @@
-// A record is two words: an argument and the answer wanted.
+//! A record is two words: an argument and the answer wanted.
 ghost use Rattle.std.specs.Prelude.{◌≡◌, ◌/◌, ◌<◌, length, count_by};
 ghost use Rattle.replay_floats.specs.Record.{record_at, records_of, is_mismatch};
 

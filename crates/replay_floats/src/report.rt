@@ -1,4 +1,4 @@
-// What the program prints of a mismatch.
+//! What the program prints of a mismatch.
 use crate::answer::{Operation, answer};
 use crate::record::Record;
 use harness::tally::Tally;

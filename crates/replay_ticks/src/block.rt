@@ -13,10 +13,7 @@ use tick_block::words::word_at;
 const REFUSED: u32 = 8;
 
 // The controller that is to run a block, if it comes in order: a pass's first block makes it.
-fn controller_for(
-    pass: &Option<BodyController>,
-    block: &[u8],
-) -> Result<BodyController, Refusal> {
+fn controller_for(pass: &Option<BodyController>, block: &[u8]) -> Result<BodyController, Refusal> {
     let tick_length = block_tested(block)?;
     let c = match pass {
         None => BodyController::start(Start { tick_length }),

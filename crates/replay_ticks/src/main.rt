@@ -1,6 +1,6 @@
-//! Program `replay_ticks`: tick blocks from standard input; for each, 96 words with all that its tick answers and leaves,
-//! to standard output. A refused block ends its pass, and the next block begins another. compare/FORMATS.md lists the
-//! words.
+//! Program `replay_ticks`: tick blocks from standard input; for each, 96 words with all that its tick answers and
+//! leaves, to standard output. A refused block ends its pass, and the next block begins another. compare/FORMATS.md
+//! lists the words.
 #![tactic(auto)]
 
 mod answers; // answers.rt: the words of the four answers

@@ -1,4 +1,4 @@
--- A turn is one block, cut off the front of the bytes that are left. Assumes nothing.
+-- A turn is one block, cut off the front of the bytes that are left.
 use Rattle.std.proofs.Common.{rules, refl, ◌∙◌}
 use Rattle.pass.proofs.Going.{begin, turn, stopped, emptied}
 use Rattle.pass.proofs.BatchHolds.{begins}

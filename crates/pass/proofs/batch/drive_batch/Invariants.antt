@@ -1,4 +1,4 @@
--- The invariant of the loop of `drive_batch`: no block is refused yet, and the rest of the batch is what the iterator has left. Assumes nothing.
+-- The invariant of the loop of `drive_batch`: no block is refused yet, and the rest of the batch is what the iterator has left.
 use Rattle.std.proofs.Common.{◌≡◌, false}
 use Rattle.std.specs.Iterator.Adapters.{take_source, take_count}
 use Rattle.std.specs.Slice.Iter.{chunks_rest, chunks_size}
