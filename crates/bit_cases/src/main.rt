@@ -4,24 +4,24 @@
 #![tactic(auto)]
 
 use full_read::read_full;
-use line_text::Line;
-use pass::blocks::drive;
-use pass::driven::Pass;
+use line_text::line::Line;
+use pass::pass::Pass;
 use std::io;
 use tick_block::check::renew_check;
 use tick_block::layout::BLOCK_BYTES;
 use tick_block::words::{put_word, word_at};
 
-// A refusal as a hexadecimal digit. A `u8`, as it is the number that drive's line has.
-fn digit(refusal: u8) -> u8 {
-    char::from_digit(refusal as u32, 16).unwrap_or('?') as u8
+// A refusal's number as a hexadecimal digit.
+fn digit(number: u8) -> u8 {
+    char::from_digit(number as u32, 16).unwrap_or('?') as u8
 }
 
 // How an empty pass answers a block: a dot for a tick, or the refusal.
 fn glyph(block: &[u8]) -> u8 {
-    match drive(Pass::Empty, block).line {
+    let mut pass = Pass::Empty;
+    match pass.drive(block) {
         Line::Tick(_) => b'.',
-        Line::Refused(r) => digit(r.refusal),
+        Line::Refused(r) => digit(r.refusal.number()),
     }
 }
 
@@ -37,7 +37,12 @@ fn turned(block: &[u8; BLOCK_BYTES], word: u8, bit: u8, fresh: bool) -> u8 {
 }
 
 // A word's line: a glyph for each of its bits, the lowest first.
-fn print_word(rt: &HostRuntime, block: &[u8; BLOCK_BYTES], word: u8, fresh: bool) -> io::Result<()> {
+fn print_word(
+    rt: &HostRuntime,
+    block: &[u8; BLOCK_BYTES],
+    word: u8,
+    fresh: bool,
+) -> io::Result<()> {
     let mut line = [b'\n'; 33];
     for (bit, glyph) in (0..32).zip(&mut line) {
         *glyph = turned(block, word, bit, fresh);
@@ -46,7 +51,12 @@ fn print_word(rt: &HostRuntime, block: &[u8; BLOCK_BYTES], word: u8, fresh: bool
 }
 
 // A line for each of the first words.
-fn print_words(rt: &HostRuntime, block: &[u8; BLOCK_BYTES], words: u8, fresh: bool) -> io::Result<()> {
+fn print_words(
+    rt: &HostRuntime,
+    block: &[u8; BLOCK_BYTES],
+    words: u8,
+    fresh: bool,
+) -> io::Result<()> {
     for word in 0..words {
         print_word(rt, block, word, fresh)?;
     }

@@ -17,9 +17,9 @@ use tick::refusal::Refusal;
 #[derive(Clone, Copy)]
 pub struct Finished {
     pub outputs: Outputs,
-    /// An entry of the twist is not what it was before `clamp`.
+    /// An entry of the twist is not equal, as a float, to what it was before `clamp`.
     pub vel_clamped: bool,
-    /// An entry of the acceleration is not what it was before `clamp`.
+    /// An entry of the acceleration is not equal, as a float, to what it was before `clamp`.
     pub accel_clamped: bool,
     pub wheels_disabled: bool,
 }

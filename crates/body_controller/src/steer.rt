@@ -18,7 +18,7 @@ use tick::refusal::Refusal;
 pub struct Steered {
     /// The tick's setpoints, their twist limited.
     pub setpoints: ManeuverSetpoints,
-    /// An entry of the twist is not what it was before `clamp`.
+    /// An entry of the twist is not equal, as a float, to what it was before `clamp`.
     pub vel_clamped: bool,
     /// By the estimate's heading.
     pub heading: Rotation,

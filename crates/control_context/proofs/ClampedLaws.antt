@@ -5,7 +5,7 @@ use lib.Dec.{T}
 use lib.Ieee.{Float, lt, le, eq, ne, neg, of_bits}
 use Rattle.ieee754.proofs.ClampLaws.{clamp_within_within}
 use Rattle.linear.specs.declared.Vector3f.{Vector3f}
-use Rattle.params.specs.Params.{body_accel_clamp_linear, body_accel_clamp_angular, body_vel_clamp_linear, body_vel_clamp_angular}
+use Rattle.params.specs.declared.TheConstants.{BODY_ACCEL_CLAMP_LINEAR, BODY_ACCEL_CLAMP_ANGULAR, BODY_VEL_CLAMP_LINEAR, BODY_VEL_CLAMP_ANGULAR}
 use Rattle.control_context.specs.Clamped.{clamped_to, twist_clamped, accel_clamped}
 use Rattle.control_context.specs.TrackingLaws.{BoundedEntries, SameEntries}
 
@@ -13,13 +13,13 @@ pub clamped_bounded : (linear angular : Float) (v : Vector3f) → T (le (neg lin
 unfolding clamped_to
 clamped_bounded linear angular v p q = (clamp_within_within v.x linear p, (clamp_within_within v.y linear p, clamp_within_within v.z angular q))
 
-pub twist_bounded : (v : Vector3f) → BoundedEntries body_vel_clamp_linear body_vel_clamp_angular (twist_clamped v).value
+pub twist_bounded : (v : Vector3f) → BoundedEntries BODY_VEL_CLAMP_LINEAR BODY_VEL_CLAMP_ANGULAR (twist_clamped v).value
 unfolding lt eq le neg of_bits
-twist_bounded v = clamped_bounded body_vel_clamp_linear body_vel_clamp_angular v tt tt
+twist_bounded v = clamped_bounded BODY_VEL_CLAMP_LINEAR BODY_VEL_CLAMP_ANGULAR v tt tt
 
-pub accel_bounded : (v : Vector3f) → BoundedEntries body_accel_clamp_linear body_accel_clamp_angular (accel_clamped v).value
+pub accel_bounded : (v : Vector3f) → BoundedEntries BODY_ACCEL_CLAMP_LINEAR BODY_ACCEL_CLAMP_ANGULAR (accel_clamped v).value
 unfolding lt eq le neg of_bits
-accel_bounded v = clamped_bounded body_accel_clamp_linear body_accel_clamp_angular v tt tt
+accel_bounded v = clamped_bounded BODY_ACCEL_CLAMP_LINEAR BODY_ACCEL_CLAMP_ANGULAR v tt tt
 
 -- ---- the mark
 

@@ -3,7 +3,7 @@ use Rattle.std.specs.Prelude.{Bool, ◌||◌, Float}
 use Rattle.std.specs.Float.Ieee.{ne}
 use Rattle.ieee754.specs.Clamp.{clamp_within}
 use Rattle.linear.specs.declared.Vector3f.{Vector3f}
-use Rattle.params.specs.Params.{body_accel_clamp_linear, body_accel_clamp_angular, body_vel_clamp_linear, body_vel_clamp_angular}
+use Rattle.params.specs.declared.TheConstants.{BODY_ACCEL_CLAMP_LINEAR, BODY_ACCEL_CLAMP_ANGULAR, BODY_VEL_CLAMP_LINEAR, BODY_VEL_CLAMP_ANGULAR}
 use Rattle.control_context.specs.declared.limits.Clamped.{Clamped}
 
 -- the entries within their bounds, as `f32::clamp` has them, which keeps NaN
@@ -19,7 +19,7 @@ unfoldable pub clamped_to : Float → Float → Vector3f → Clamped
 clamped_to linear angular v = record { value = within linear angular v; clamped = differs (within linear angular v) v }
 
 abbrev pub twist_clamped : Vector3f → Clamped
-twist_clamped v = clamped_to body_vel_clamp_linear body_vel_clamp_angular v
+twist_clamped v = clamped_to BODY_VEL_CLAMP_LINEAR BODY_VEL_CLAMP_ANGULAR v
 
 abbrev pub accel_clamped : Vector3f → Clamped
-accel_clamped v = clamped_to body_accel_clamp_linear body_accel_clamp_angular v
+accel_clamped v = clamped_to BODY_ACCEL_CLAMP_LINEAR BODY_ACCEL_CLAMP_ANGULAR v

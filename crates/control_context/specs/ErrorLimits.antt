@@ -4,7 +4,7 @@ use Rattle.std.specs.Float.Ieee.{lt}
 use Rattle.ieee754.specs.Magnitude.{magnitude}
 use Rattle.linear.specs.declared.Vector4f.{Vector4f}
 use Rattle.params.specs.declared.TrackingErrors.{TrackingErrors}
-use Rattle.params.specs.Params.{tracking_divergence_recovery_rest_wheel_vel}
+use Rattle.params.specs.declared.TheConstants.{TRACKING_DIVERGENCE_RECOVERY_REST_WHEEL_VEL}
 
 -- an error exceeds its limit; NaN exceeds nothing
 abbrev pub any_exceeds : TrackingErrors → TrackingErrors → Bool
@@ -14,7 +14,7 @@ any_exceeds e l =
 
 -- |wheel| < 50.0; NaN is not
 abbrev pub wheel_at_rest : Float → Bool
-wheel_at_rest w = lt (magnitude w) tracking_divergence_recovery_rest_wheel_vel
+wheel_at_rest w = lt (magnitude w) TRACKING_DIVERGENCE_RECOVERY_REST_WHEEL_VEL
 
 -- every wheel is
 abbrev pub at_rest : Vector4f → Bool

@@ -9,15 +9,15 @@ use Rattle.linear.specs.Vector.{zero_float}
 use Rattle.linear.specs.declared.rotation.Rotation.{Rotation}
 use Rattle.linear.specs.Rotation.{to_local}
 use Rattle.control_context.specs.declared.tracking.ManeuverSetpoints.{ManeuverSetpoints}
-use Rattle.params.specs.Params.{friction_comp_gating}
+use Rattle.params.specs.declared.TheConstants.{FRICTION_COMP_GATING}
 
 -- gates 0.1 for the linear velocity and 0.5 for the linear acceleration, both inclusive
 abbrev pub linear_comp_on : Vector3f → Vector3f → Bool
-linear_comp_on vel accel = le friction_comp_gating.linear_accel (hypotenuse accel.x accel.y) || le friction_comp_gating.linear_vel (hypotenuse vel.x vel.y)
+linear_comp_on vel accel = le FRICTION_COMP_GATING.linear_accel (hypotenuse accel.x accel.y) || le FRICTION_COMP_GATING.linear_vel (hypotenuse vel.x vel.y)
 
 -- gates 0.5 for the angular velocity and 1.0 for the angular acceleration, both inclusive
 abbrev pub angular_comp_on : Vector3f → Vector3f → Bool
-angular_comp_on vel accel = le friction_comp_gating.angular_accel (magnitude accel.z) || le friction_comp_gating.angular_vel (magnitude vel.z)
+angular_comp_on vel accel = le FRICTION_COMP_GATING.angular_accel (magnitude accel.z) || le FRICTION_COMP_GATING.angular_vel (magnitude vel.z)
 
 -- an entry that is not on is 0.0
 abbrev pub kept_if : Bool → Float → Float

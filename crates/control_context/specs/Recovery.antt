@@ -8,7 +8,7 @@ use Rattle.linear.specs.declared.Vector4f.{Vector4f}
 use Rattle.linear.specs.declared.Vector6f.{Vector6f}
 use Rattle.linear.specs.Vector.{difference_of}
 use Rattle.params.specs.declared.TrackingErrors.{TrackingErrors}
-use Rattle.params.specs.Params.{tracking_error_threshold}
+use Rattle.params.specs.declared.TheConstants.{TRACKING_ERROR_THRESHOLD}
 use Rattle.control_context.specs.declared.recovery.TrackingDivergenceState.{TrackingDivergenceState}
 use Rattle.control_context.specs.declared.recovery.TrackingDivergenceState.TheVariants.{Normal, Recovering}
 use Rattle.control_context.specs.ErrorLimits.{any_exceeds, at_rest}
@@ -33,7 +33,7 @@ tracking_errors sample estimate =
 -- an error exceeds 1.0, 1.57, 5.0 or 10.0; with no sample held none does
 abbrev pub tracking_error_exceeded : Option Vector6f → Vector6f → Bool
 tracking_error_exceeded None estimate = false
-tracking_error_exceeded (Some sample) estimate = any_exceeds (tracking_errors sample estimate) tracking_error_threshold
+tracking_error_exceeded (Some sample) estimate = any_exceeds (tracking_errors sample estimate) TRACKING_ERROR_THRESHOLD
 
 -- Normal turns to recovering if an error exceeds; recovering with every wheel at rest resets within the tick
 unfoldable pub recovery : TrackingDivergenceState → Option Vector6f → Vector6f → Vector4f → RecoveryAnswer

@@ -7,7 +7,7 @@ use Rattle.ieee754.specs.Remainder.{remainder_by, tau}
 use Rattle.linear.specs.declared.Vector3f.{Vector3f}
 use Rattle.linear.specs.declared.Vector6f.{Vector6f}
 use Rattle.linear.specs.Vector.{zeros3, sum_of, difference_of, scaled, entries3, vector3_of}
-use Rattle.params.specs.Params.{linear_pose_pid_gains, angular_pose_pid_gains, pose_pid_anti_jitter_thresh, pose_accel_feedback_gain, pose_vel_feedforward_gain}
+use Rattle.params.specs.declared.TheConstants.{LINEAR_POSE_PID_GAINS, ANGULAR_POSE_PID_GAINS, POSE_PID_ANTI_JITTER_THRESH, POSE_ACCEL_FEEDBACK_GAIN, POSE_VEL_FEEDFORWARD_GAIN}
 use Rattle.controllers.specs.declared.pid.PidSettings.{PidSettings}
 use Rattle.controllers.specs.declared.pid.PidMemory.{PidMemory}
 use Rattle.controllers.specs.PidAxes.{calculated_with_derivative}
@@ -20,9 +20,9 @@ zero_setpoints = record { body_twist = zeros3; body_accel = zeros3 }
 -- `pose_pid_controller`: the linear gains for x and y, the angular ones for the heading, a threshold for each axis, and no limits
 abbrev pub pose_pid : List PidSettings
 pose_pid =
-    record { gain = linear_pose_pid_gains; anti_jitter_thresh = Some pose_pid_anti_jitter_thresh.x; output_limits = None }
-    ∷ record { gain = linear_pose_pid_gains; anti_jitter_thresh = Some pose_pid_anti_jitter_thresh.y; output_limits = None }
-    ∷ record { gain = angular_pose_pid_gains; anti_jitter_thresh = Some pose_pid_anti_jitter_thresh.z; output_limits = None }
+    record { gain = LINEAR_POSE_PID_GAINS; anti_jitter_thresh = Some POSE_PID_ANTI_JITTER_THRESH.x; output_limits = None }
+    ∷ record { gain = LINEAR_POSE_PID_GAINS; anti_jitter_thresh = Some POSE_PID_ANTI_JITTER_THRESH.y; output_limits = None }
+    ∷ record { gain = ANGULAR_POSE_PID_GAINS; anti_jitter_thresh = Some POSE_PID_ANTI_JITTER_THRESH.z; output_limits = None }
     ∷ []
 
 -- the sample's place, its heading the one within half a turn of the estimate's
@@ -31,11 +31,11 @@ wrapped pos pose = record pos { z = add binary32 pose.z (remainder_by binary32 (
 
 -- 1.0·velocity + 0.0, so that -0.0 becomes 0.0
 abbrev pub twist_setpoint : Vector3f → Vector3f
-twist_setpoint vel = sum_of (scaled vel pose_vel_feedforward_gain) zeros3
+twist_setpoint vel = sum_of (scaled vel POSE_VEL_FEEDFORWARD_GAIN) zeros3
 
 -- 0.0 + 1.0·feedback, so that -0.0 becomes 0.0
 abbrev pub accel_setpoint : Vector3f → Vector3f
-accel_setpoint feedback = sum_of zeros3 (scaled feedback pose_accel_feedback_gain)
+accel_setpoint feedback = sum_of zeros3 (scaled feedback POSE_ACCEL_FEEDBACK_GAIN)
 
 -- setpoints, and what the PID remembers after them
 pub record TrackingAnswer : Type 0 where

@@ -5,7 +5,7 @@ use Rattle.std.specs.Float.Ieee.{le, eq, neg}
 use Rattle.linear.specs.declared.Vector3f.{Vector3f}
 use Rattle.linear.specs.declared.Vector4f.{Vector4f}
 use Rattle.linear.specs.declared.Vector6f.{Vector6f}
-use Rattle.params.specs.Params.{body_accel_clamp_linear, body_accel_clamp_angular, body_vel_clamp_linear, body_vel_clamp_angular}
+use Rattle.params.specs.declared.TheConstants.{BODY_ACCEL_CLAMP_LINEAR, BODY_ACCEL_CLAMP_ANGULAR, BODY_VEL_CLAMP_LINEAR, BODY_VEL_CLAMP_ANGULAR}
 use Rattle.control_context.specs.declared.recovery.TrackingDivergenceState.TheVariants.{Normal}
 use Rattle.control_context.specs.Clamped.{clamped_to, twist_clamped, accel_clamped}
 use Rattle.control_context.specs.Recovery.{recovery}
@@ -21,10 +21,10 @@ abbrev pub BoundedEntries : Float → Float → Vector3f → Type 0
 BoundedEntries linear angular v = Bounded linear v.x × (Bounded linear v.y × Bounded angular v.z)
 
 abbrev pub TwistIsBounded : Type 0
-TwistIsBounded = (v : Vector3f) → BoundedEntries body_vel_clamp_linear body_vel_clamp_angular (twist_clamped v).value
+TwistIsBounded = (v : Vector3f) → BoundedEntries BODY_VEL_CLAMP_LINEAR BODY_VEL_CLAMP_ANGULAR (twist_clamped v).value
 
 abbrev pub AccelIsBounded : Type 0
-AccelIsBounded = (v : Vector3f) → BoundedEntries body_accel_clamp_linear body_accel_clamp_angular (accel_clamped v).value
+AccelIsBounded = (v : Vector3f) → BoundedEntries BODY_ACCEL_CLAMP_LINEAR BODY_ACCEL_CLAMP_ANGULAR (accel_clamped v).value
 
 -- ---- the mark
 

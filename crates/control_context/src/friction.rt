@@ -13,15 +13,15 @@ use params::FRICTION_COMP_GATING;
 fn linear_comp_on(vel: Vector3f, accel: Vector3f) -> bool
     ensures { result ≡ linear_comp_on vel accel }
 {
-    (hypot(accel.x, accel.y) >= FRICTION_COMP_GATING.linear_accel)
-        | (hypot(vel.x, vel.y) >= FRICTION_COMP_GATING.linear_vel)
+    hypot(accel.x, accel.y) >= FRICTION_COMP_GATING.linear_accel
+        || hypot(vel.x, vel.y) >= FRICTION_COMP_GATING.linear_vel
 }
 
 fn angular_comp_on(vel: Vector3f, accel: Vector3f) -> bool
     ensures { result ≡ angular_comp_on vel accel }
 {
-    (abs(accel.z) >= FRICTION_COMP_GATING.angular_accel)
-        | (abs(vel.z) >= FRICTION_COMP_GATING.angular_vel)
+    abs(accel.z) >= FRICTION_COMP_GATING.angular_accel
+        || abs(vel.z) >= FRICTION_COMP_GATING.angular_vel
 }
 
 fn kept_if(on: bool, x: f32) -> f32

@@ -1,4 +1,4 @@
-// What is proved of plan's decision and of equality of commands: functions that do nothing, for their clauses.
+//! What is proved of plan's decision and of equality of commands: functions that do nothing, for their clauses.
 
 ghost use Rattle.control_context.specs.ManeuverLaws.{EqualityIsSymmetric, EqualsItselfWithoutNan, ZerosAreEqual};
 ghost use Rattle.control_context.specs.ManeuverLaws.{HoldForgets, ChangedModePlansAnew, NoVisionKeeps, SeedIsHeldState};

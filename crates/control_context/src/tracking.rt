@@ -23,6 +23,7 @@ pub struct ManeuverSetpoints {
     pub body_accel: Vector3f,
 }
 
+/// No motion: what hold and no vision set.
 pub const ZERO_SETPOINTS: ManeuverSetpoints = ManeuverSetpoints {
     body_twist: ZEROS_3,
     body_accel: ZEROS_3,

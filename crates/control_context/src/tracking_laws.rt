@@ -1,4 +1,4 @@
-// What is proved of the clamps and of recovery: functions that do nothing, for their clauses.
+//! What is proved of the clamps and of recovery: functions that do nothing, for their clauses.
 
 ghost use Rattle.control_context.specs.TrackingLaws.{TwistIsBounded, AccelIsBounded, UnmarkedIsSame, NormalStaysUnheld};
 

@@ -1,10 +1,11 @@
 -- The controller of any number of axes is the list of specs/Axes.antt: so what is shown there of lists of calls holds of it.
-use Rattle.std.proofs.Common.{◌≡◌, ℕ, List, [], ◌∷◌, map, replicate, refl, ap}
+use Rattle.std.proofs.Common.{◌≡◌, ℕ, List, [], ◌∷◌, map, length, replicate, refl, sym, ap}
 use lib.Ieee.{Float}
 use Rattle.controllers.specs.declared.pid.PidSettings.{PidSettings}
 use Rattle.controllers.specs.declared.pid.PidMemory.{PidMemory}
-use Rattle.controllers.specs.Axis.{AxisAnswer, no_memory}
-use Rattle.controllers.specs.Axes.{asks, asks_with_derivative, answers}
+use Rattle.controllers.specs.Axis.{AxisAnswer}
+use Rattle.controllers.specs.Axes.{asks, asks_with_derivative, answers, reset, after_call}
+use Rattle.controllers.proofs.AxesLaws.{reset_new}
 use Rattle.controllers.specs.PidAxes.{joined, calculated, calculated_with_derivative, new_memory, answers_of, sides}
 
 -- the outputs and the memories give the answers back
@@ -21,6 +22,7 @@ pub axes_with_derivative : {n : ℕ} (cs : List PidSettings) (m : PidMemory n) (
 unfolding calculated_with_derivative joined
 axes_with_derivative cs m s v d dt = sides_back (answers (asks_with_derivative s v d dt) cs m.axes)
 
-pub axes_reset : (n : ℕ) → (new_memory {n = n}).axes ≡ replicate n no_memory
+pub axes_reset : (n : ℕ) (cs : List PidSettings) (m : PidMemory n) → length cs ≡ n → length m.axes ≡ n
+    → (new_memory {n = n}).axes ≡ after_call (replicate n reset) cs m.axes
 unfolding new_memory
-axes_reset n = refl
+axes_reset n cs m g h = sym (reset_new n cs m.axes g h)

@@ -4,7 +4,7 @@ use Rattle.std.specs.Result.{result_map_both}
 use Rattle.std.specs.Float.Ieee.{neg}
 use Rattle.linear.specs.declared.Vector4f.{Vector4f}
 use Rattle.linear.specs.Vector.{zero_float, entries4, vector4_of}
-use Rattle.params.specs.Params.{brake_kp, brake_anti_jitter_rads, brake_max_current_a}
+use Rattle.params.specs.declared.TheConstants.{BRAKE_KP, BRAKE_ANTI_JITTER_RADS, BRAKE_MAX_CURRENT_A}
 use Rattle.tick.specs.declared.refusal.Refusal.{Refusal}
 use Rattle.tick.specs.TickLength.{tick_length_of, seconds_of}
 use Rattle.controllers.specs.declared.pid.PidSettings.{PidSettings}
@@ -15,9 +15,9 @@ use Rattle.controllers.specs.declared.active_brake.ActiveBrakeController.{Active
 -- one wheel: Kp alone, scaled toward zero below BRAKE_ANTI_JITTER_RADS, and held to ±BRAKE_MAX_CURRENT_A
 unfoldable pub wheel_settings : PidSettings
 wheel_settings = record {
-  gain = record { kp = brake_kp; ki = zero_float; kd = zero_float; ki_err_min = zero_float; ki_err_max = zero_float };
-  anti_jitter_thresh = Some brake_anti_jitter_rads;
-  output_limits = Some (neg brake_max_current_a, brake_max_current_a);
+  gain = record { kp = BRAKE_KP; ki = zero_float; kd = zero_float; ki_err_min = zero_float; ki_err_max = zero_float };
+  anti_jitter_thresh = Some BRAKE_ANTI_JITTER_RADS;
+  output_limits = Some (neg BRAKE_MAX_CURRENT_A, BRAKE_MAX_CURRENT_A);
 }
 
 -- what it remembers of the wheels

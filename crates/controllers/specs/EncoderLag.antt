@@ -4,7 +4,7 @@ use Rattle.std.specs.Result.{result_map_both}
 use Rattle.std.specs.Float.{fin, binary32}
 use Rattle.std.specs.Float.Ieee.{of_int, to_unsigned, add, mul, div, lt, of_bits}
 use Rattle.linear.specs.Vector.{zeros2}
-use Rattle.params.specs.Params.{enc_lag_k, enc_lag_t_slope, enc_lag_t_horizon, t_min_default}
+use Rattle.params.specs.declared.TheConstants.{ENC_LAG_K, ENC_LAG_T_SLOPE, ENC_LAG_T_HORIZON, T_MIN_DEFAULT}
 use Rattle.tick.specs.declared.refusal.Refusal.{Refusal}
 use Rattle.tick.specs.TickLength.{tick_length_of, micros_of}
 use Rattle.controllers.specs.declared.first_order_lag.FirstOrderLag.{FirstOrderLag}
@@ -15,7 +15,7 @@ duration_to_secs micros = mul binary32 (of_int binary32 (pos micros)) (of_bits b
 
 -- the horizon over dt, plus 0.5
 unfoldable pub horizon_over : Float → Float
-horizon_over dt = add binary32 (div binary32 (duration_to_secs enc_lag_t_horizon) dt) (of_bits binary32 0x3f00_0000)
+horizon_over dt = add binary32 (div binary32 (duration_to_secs ENC_LAG_T_HORIZON) dt) (of_bits binary32 0x3f00_0000)
 
 -- -1 < x < 2^64: without its fraction x is a 64-bit number
 abbrev pub Castable : Float → Type 0
@@ -32,8 +32,8 @@ dt_of k = duration_to_secs (micros_of k)
 -- the lag at rest, both axes alike
 unfoldable pub new_lag : ℕ → FirstOrderLag
 new_lag k = record {
-  params = record { k = record { x = enc_lag_k; y = enc_lag_k }; t_slope = record { x = enc_lag_t_slope; y = enc_lag_t_slope } };
-  t_min = duration_to_secs t_min_default;
+  params = record { k = record { x = ENC_LAG_K; y = ENC_LAG_K }; t_slope = record { x = ENC_LAG_T_SLOPE; y = ENC_LAG_T_SLOPE } };
+  t_min = duration_to_secs T_MIN_DEFAULT;
   dt = dt_of k;
   n_steps = n_steps_of (dt_of k);
   state = zeros2;

@@ -105,5 +105,7 @@ AxesCalculateWithDerivativeAsList =
     (n : ℕ) (cs : List PidSettings) (m : PidMemory n) (s v d : List Float) (dt : Float)
     → answers_of (calculated_with_derivative cs m s v d dt) ≡ answers (asks_with_derivative s v d dt) cs m.axes
 
+-- what `reset` leaves is the list's memory after a call that resets every axis
 abbrev pub AxesResetAsList : Type 0
-AxesResetAsList = (n : ℕ) → (new_memory {n = n}).axes ≡ replicate n no_memory
+AxesResetAsList =
+    (n : ℕ) (cs : List PidSettings) (m : PidMemory n) → length cs ≡ n → length m.axes ≡ n → (new_memory {n = n}).axes ≡ after_call (replicate n reset) cs m.axes

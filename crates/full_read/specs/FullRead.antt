@@ -1,4 +1,4 @@
--- What a reader has lost where a read failed. Assumes nothing.
+-- What a reader has lost where a read failed.
 use Rattle.std.specs.Prelude.{ℕ, ◌≤◌, List, length, take, Option}
 use Rattle.std.specs.Io.KnownBytes.{Consumes}
 

@@ -1,4 +1,4 @@
-// A buffer filled from a reader, as far as the input goes. A pipe gives its bytes in pieces.
+//! A buffer filled from a reader, as far as the input goes. A pipe gives its bytes in pieces.
 #![tactic(auto)]
 
 ghost use Rattle.std.specs.Prelude.{◌<◌, length, take, IfOk, OnErr};
@@ -9,8 +9,8 @@ ghost use Rattle.full_read.specs.FullRead.{ConsumesSome};
 use std::io;
 use std::io::Read;
 
-// Reads until buf is full or the input ends, and answers how many bytes it put at the start of buf.
-// The input is at its end where they are fewer than buf has room for.
+/// Reads until buf is full or the input ends, and answers how many bytes it put at the start of buf.
+/// The input is at its end where they are fewer than buf has room for.
 // std's read_exact does not say what it took before an Err, and read_to_end fills a Vec.
 pub fn read_full<R: Read>(reader: &mut R, buf: &mut [u8]) -> io::Result<usize>
     ensures bound { ReadsAtMost result buf.new }

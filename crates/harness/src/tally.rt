@@ -12,6 +12,7 @@ pub struct Tally {
 }
 
 impl Tally {
+    /// Nothing read yet.
     pub fn new() -> Self
         ensures { result ≡ none_yet }
     {

@@ -1,4 +1,4 @@
--- x % (2.0 * PI) by whole numbers. From 4.0 on x is M * 2 ^ k units of 2 ^ -21, M being its 24 digits, and 2.0 * PI is 13176795 of them. Assumes nothing.
+-- x % (2.0 * PI) by whole numbers. From 4.0 on x is M * 2 ^ k units of 2 ^ -21, M being its 24 digits, and 2.0 * PI is 13176795 of them.
 use Rattle.std.proofs.Common.{mul-pos, ◌⊎◌, inl, inr, ⊎_elim, true≢false, mod-lt, le_of_lt, ◌≡◌, ℕ, zero, suc, ◌+◌, ◌-◌, ◌*◌, ◌/◌, ◌%◌, ◌^◌, ◌<◌, ◌≤◌, Bool, true, false, not, T, leb, pos, sym, refl, ap, ◌∙◌, subst, lt_of_lt_of_le, mod-eq_of_lt, mul_assoc, mul-one, arith, lit<, lit≤, pow_pos, pow_mono, pow-add, shl_lt, ne_eqb}
 use native.Mathlib.Decide.{dec_lt}
 use native.Mathlib.Nat.{mul-mul-mul_comm}

@@ -1,4 +1,4 @@
--- Where the two clamps differ, at NaN, and that each answers within its bounds, f32's unless it is given a NaN. Assumes nothing.
+-- Where the two clamps differ, at NaN, and that each answers within its bounds, f32's unless it is given a NaN.
 use mathlib.Core.Path.{◌≡◌, refl, sym}
 use mathlib.Core.Logic.{◌⊎◌, inl, inr}
 use Prim.Native.Nat.{ℕ, ◌+◌, ◌*◌}

@@ -1,4 +1,4 @@
--- The whole number n closest to a / b: how far n * b lies from a, that a tie goes to the even number, and which n it is. Nothing here is about floats. Assumes nothing.
+-- The whole number n closest to a / b: how far n * b lies from a, that a tie goes to the even number, and which n it is. Nothing here is about floats.
 use mathlib.Core.Path.{◌≡◌, refl, ap, ◌∙◌, subst}
 use mathlib.Core.Logic.{◌⊎◌, inl, inr}
 use Prim.Native.Nat.{ℕ, zero, suc, ◌+◌, ◌-◌, ◌*◌, ◌/◌, ◌%◌, ◌≤◌, ◌<◌, compare, Ordering}

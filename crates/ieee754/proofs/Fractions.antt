@@ -1,5 +1,5 @@
 -- x / k and u / l are the same fraction, and so are y / k and v / l: `x * l ≡ u * k` and `y * l ≡ v * k`. What holds of x and y then holds of u and v,
--- and what is made of x and y is the same fraction as what is made of u and v. Assumes nothing.
+-- and what is made of x and y is the same fraction as what is made of u and v.
 use mathlib.Core.Path.{◌≡◌, sym, ap, ap₂, ◌∙◌}
 use Prim.Native.Nat.{ℕ, ◌+◌, ◌-◌, ◌*◌, ◌/◌, ◌%◌, ◌≤◌, ◌<◌}
 use native.Mathlib.Nat.{le_trans, le_of_eq, lt_of_lt_of_le, lt_of_le_of_lt, add-mul, mul_assoc, mul_comm, mul-sub, mul_right_comm, mul-pos, mul-mul-mul_comm, eq_of_mul-eq-mul_right, mul-le-mul_right, mul-lt-mul_of_pos_right, le_of_mul-le-mul_right, lt_of_mul-lt-mul_right, mod-lt, div-add-mod'}

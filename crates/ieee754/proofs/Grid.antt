@@ -1,5 +1,5 @@
 -- What `%` and remainder leave of two values of a format is a value of the format: it is a multiple of the smaller of the two units in the last place, and
--- no larger than either value. Values are counted in units of the format's smallest one, 2 ^ -low. Assumes nothing.
+-- no larger than either value. Values are counted in units of the format's smallest one, 2 ^ -low.
 use mathlib.Core.Path.{◌≡◌, refl, sym, ap, ◌∙◌, subst}
 use mathlib.Core.Logic.{◌⊎◌, inl, inr, ⊎_elim}
 use Prim.Native.Nat.{ℕ, zero, suc, ◌+◌, ◌-◌, ◌*◌, ◌/◌, ◌%◌, ◌^◌, ◌≤◌, ◌<◌, ◌∣◌}

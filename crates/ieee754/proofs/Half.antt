@@ -1,5 +1,5 @@
 -- The remainder by y in three steps of the format's own: r = x % y, r against half of y, and y taken off or added once. It holds for a y = n * 2 ^ d whose odd n has so many
--- digits that 3 * n has more than the format keeps: then x lies halfway between two multiples of y only where they are 0 and ±y. Assumes nothing.
+-- digits that 3 * n has more than the format keeps: then x lies halfway between two multiples of y only where they are 0 and ±y.
 use mathlib.Core.Path.{◌≡◌, refl, sym, ap, ◌∙◌, subst}
 use Prim.Native.Nat.{ℕ, zero, suc, ◌+◌, ◌-◌, ◌*◌, ◌/◌, ◌%◌, ◌^◌, ◌≤◌, ◌<◌}
 use native.Mathlib.Nat.{le_of_suc-le-suc, mul_assoc, mul_right_comm, mul-mul-mul_comm, mul-pos, add-mul, suc-mul, le-mul_of_pos_right, eq_of_mul-eq-mul_right, div-add-mod', mod-lt, pow-suc}

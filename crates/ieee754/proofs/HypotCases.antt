@@ -1,4 +1,4 @@
--- Document 01's starred cases of `hypotf`, each by computation, the floats by their words. Assumes nothing.
+-- Cases of the hypotenuse, each by computation, the floats by their words.
 use mathlib.Core.Path.{◌≡◌, refl}
 use lib.Ieee.{binary32, size, round, add, mul, lt, le, eq, is_nan, to_bits, of_bits}
 use Rattle.ieee754.specs.Magnitude.{magnitude}

@@ -1,4 +1,4 @@
--- The hypotenuse of two floats that binary32 holds is the same in both orders. Assumes nothing.
+-- The hypotenuse of two floats that binary32 holds is the same in both orders.
 use mathlib.Core.Path.{◌≡◌, refl}
 use Prim.Native.Nat.{◌*◌}
 use native.Mathlib.Omega.{arith}

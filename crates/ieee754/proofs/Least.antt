@@ -1,4 +1,4 @@
--- What `least_rest` comes to: the rest of the division, or what is missing to the next multiple; and `%` and remainder in its terms. Assumes nothing.
+-- What `least_rest` comes to: the rest of the division, or what is missing to the next multiple; and `%` and remainder in its terms.
 use mathlib.Core.Path.{◌≡◌}
 use mathlib.Core.Logic.{◌⊎◌, inl, inr, ⊎_elim}
 use Prim.Native.Nat.{ℕ, zero, suc, ◌-◌, ◌*◌, ◌/◌, ◌%◌, ◌≤◌, ◌<◌}

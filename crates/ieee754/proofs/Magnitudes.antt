@@ -1,4 +1,4 @@
--- Laws of the magnitude: what it keeps of a float, and its word. Assumes nothing.
+-- Laws of the magnitude: what it keeps of a float, and its word.
 use mathlib.Core.Path.{◌≡◌, refl}
 use Prim.Native.Nat.{ℕ, zero, suc, ◌+◌, ◌%◌}
 use native.Mathlib.Omega.{arith}

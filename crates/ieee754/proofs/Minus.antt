@@ -1,4 +1,4 @@
--- A multiple of y taken off x, exactly: what that says of floats, that it does not turn on the fractions, and that `least_rest` does it. Assumes nothing.
+-- A multiple of y taken off x, exactly: what that says of floats, that it does not turn on the fractions, and that `least_rest` does it.
 use mathlib.Core.Path.{◌≡◌, sym}
 use mathlib.Core.Logic.{⊎_elim}
 use Prim.Native.Nat.{ℕ, ◌-◌, ◌*◌, ◌%◌, ◌≤◌, ◌<◌}

@@ -1,5 +1,5 @@
 -- The root of a significand of 24 digits and an exponent: the digits u of the result are known by two points, the squares of u - 1/2 and u + 1/2, between which the significand lies
--- (`root_by_points`). u is half of a whole root, rounded up (`points`), or any number that passes one comparison on each side (`near_points`). Assumes nothing.
+-- (`root_by_points`). u is half of a whole root, rounded up (`points`), or any number that passes one comparison on each side (`near_points`).
 use Rattle.std.proofs.Common.{◌≡◌, ℕ, zero, suc, ◌+◌, ◌-◌, ◌*◌, ◌/◌, ◌%◌, ◌^◌, ◌<◌, ◌≤◌, false, not, T, sym, refl, ap, ◌∙◌, subst, le_trans, le_of_eq, lt_of_lt_of_le, lt_of_le_of_lt, mul-le-mul_right, mul_assoc, suc-mul, mul_comm, add-mul, mul-le-mul, mul-lt-mul_of_pos_right, mul-pos, mul-suc, mul-add, mul_left_comm, lt_of_not-le, not-le_of_lt, arith, lit<, lit≤, pow_pos, pow_mono, pow-add, shl_lt}
 use native.Mathlib.Nat.{mul-mul-mul_comm, mul-sub, pow-succ', mod-eq_of_lt, le_of_suc-le-suc}
 use lib.Arith.{lt_of_le-ne}

@@ -1,4 +1,4 @@
--- The bits of a value above zero, and the value of such bits, in units of 2 ^ -149. Assumes nothing.
+-- The bits of a value above zero, and the value of such bits, in units of 2 ^ -149.
 use Rattle.std.proofs.Common.{◌≡◌, ℕ, suc, ◌+◌, ◌-◌, ◌*◌, ◌/◌, ◌%◌, ◌^◌, ◌<◌, ◌≤◌, true, false, not, T, ℤ, sym, refl, ap, ◌∙◌, subst, true≢false, le_trans, le_of_eq, lt_of_lt_of_le, mul-le-mul_right, mod-eq_of_lt, zero-add, mul-one, mul-div_cancel, arith, lit≤, pow_pos, pow-add, shl_lt, ne_eqb}
 use native.Mathlib.Nat.{div-eq_of_lt}
 use borrow.Author.Tests.{lt-leb}

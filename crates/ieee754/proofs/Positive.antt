@@ -1,5 +1,4 @@
 -- The square root of a float above zero and below infinity is `root_of` of its size in units (`root_of_value`), what such a float's bits are (`word_range`), and the roots of the other floats.
--- Assumes nothing.
 use Rattle.std.proofs.Common.{◌≡◌, ℕ, zero, suc, ◌+◌, ◌-◌, ◌*◌, ◌/◌, ◌%◌, ◌^◌, ◌<◌, ◌≤◌, true, false, ◌&&◌, T, eqb, ltb, leb, ℤ, pos, sym, refl, ap, ◌∙◌, ⊎_elim, true≢false, le_of_eq, lt_of_lt_of_le, lt_of_le_of_lt, lt_irrefl, zero-lt-suc, add_comm, mul_assoc, div-lt_iff_lt-mul, eq-zero-or-pos, mul-lt-mul_of_pos_right, mul-pos, zero-add, zero-mul, mul_right_comm, not-le_of_lt, mul-div_cancel, arith, ltb→lt, pow_pos, pow-add, ltb-false, ltb-true}
 use mathlib.Core.Bool.{false≢true}
 use lib.Ieee.{Float, nan, inf, fin, binary32, up, down, size, lt, ne, div, fits, of_bits, to_bits}

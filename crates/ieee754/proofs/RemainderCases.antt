@@ -1,5 +1,4 @@
 -- Cases of IEEE 754 remainder, each worked out by computing with the definition, and what it gives for operands that are no numbers, infinite or zero.
--- Assumes nothing.
 use mathlib.Core.Path.{◌≡◌, refl}
 use mathlib.Core.Bool.{Bool}
 use Prim.Native.Nat.{ℕ, zero}

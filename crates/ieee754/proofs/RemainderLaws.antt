@@ -1,5 +1,5 @@
 -- The laws of IEEE 754 remainder, and of Rust's `%`, for finite operands of which the second is not zero: both are exact. With |x| = a / c and |y| = b / c the
--- remainder is |x| - n * |y| with x's sign, where n = `closest a b` is the whole number nearest to |x| / |y|, the even one at a tie. Assumes nothing.
+-- remainder is |x| - n * |y| with x's sign, where n = `closest a b` is the whole number nearest to |x| / |y|, the even one at a tie.
 use mathlib.Core.Path.{◌≡◌, refl, sym, ap, ◌∙◌, subst, subst₂}
 use mathlib.Core.Logic.{◌⊎◌, inl, inr, ⊎_elim}
 use Prim.Native.Nat.{ℕ, ◌-◌, ◌*◌, ◌%◌, ◌≤◌, ◌<◌}

@@ -1,4 +1,4 @@
--- Document 01's starred cases of the root, and others of the standard, each by computation, the floats by their words. Assumes nothing.
+-- Cases of the root, each by computation, the floats by their words.
 use Rattle.std.proofs.Common.{◌≡◌, true, false, refl}
 use lib.Ieee.{Format, binary32, nan, inf, size, round, of_bits}
 use Rattle.ieee754.specs.Root.{square_root, root_of, whole_root, root_digits, sticky}

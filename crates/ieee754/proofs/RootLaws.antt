@@ -1,5 +1,5 @@
 -- square_root held to the standard (`root_nearest`): for a finite x above zero the result is u * 2 ^ k units of 2 ^ -149, u having 24 digits, and x lies between the squares of the
--- two points half of 2 ^ k, half a unit in the last place, below and above the result. Assumes nothing.
+-- two points half of 2 ^ k, half a unit in the last place, below and above the result.
 use Rattle.std.proofs.Common.{◌≡◌, ℕ, ◌+◌, ◌-◌, ◌*◌, ◌/◌, ◌%◌, ◌^◌, ◌<◌, ◌≤◌, false, T, sym, ap, ◌∙◌, subst, le_trans, le_of_eq, lt_of_lt_of_le, lt_of_le_of_lt, mul-le-mul_right, zero-lt-suc, mul_assoc, mul-le-mul, mul-lt-mul_of_pos_right, mul-pos, one-mul, mul_right_comm, arith, lit≤, pow_pos, pow_mono, shl_lt}
 use native.Mathlib.Nat.{mul-lt-mul_of_pos_left}
 use native.Mathlib.Decide.{dec_lt}

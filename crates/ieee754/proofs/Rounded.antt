@@ -1,5 +1,5 @@
 -- The rounded root of w, held to the standard. With r = u * 2 ^ k for the result in units of the format's smallest value, the squares of the two points half of 2 ^ k away from r
--- enclose w (`root_brackets`); and an r whose two points enclose w strictly is the result (`root_is`). Assumes nothing.
+-- enclose w (`root_brackets`); and an r whose two points enclose w strictly is the result (`root_is`).
 use Rattle.std.proofs.Common.{◌≡◌, ℕ, suc, ◌+◌, ◌-◌, ◌*◌, ◌/◌, ◌%◌, ◌^◌, ◌<◌, ◌≤◌, Bool, true, false, cond, not, T, ltb, ◌⊎◌, sym, refl, ap, ◌∙◌, subst, inl, inr, le_trans, le_of_eq, lt_of_lt_of_le, lt_of_le_of_lt, le_of_lt, zero-lt-suc, mul_assoc, mul_comm, div-lt_iff_lt-mul, mul-le-mul, mul-le-mul_left, mul-pos, lt_of_not-le, le-div_iff_mul-le, not-le_of_lt, mul_left_comm, arith, ltb→lt, nltb→le, pow_pos, pow_mono, pow-add}
 use Prim.Native.Nat.{compare}
 use native.Mathlib.Nat.{mul-div-mul_right, pow-succ'}

@@ -1,4 +1,4 @@
--- Floats of one value and one sign are one float, if the format holds them. Assumes nothing.
+-- Floats of one value and one sign are one float, if the format holds them.
 use mathlib.Core.Path.{◌≡◌, sym, ap, ◌∙◌, subst}
 use Prim.Native.Nat.{ℕ, ◌-◌, ◌+◌, ◌*◌, ◌/◌, ◌^◌, ◌<◌}
 use native.Mathlib.Nat.{mul_right_comm, eq_of_mul-eq-mul_right}

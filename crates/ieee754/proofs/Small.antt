@@ -1,4 +1,4 @@
--- Below y in size, x % y is x. Assumes nothing.
+-- Below y in size, x % y is x.
 use mathlib.Core.Path.{◌≡◌, sym, subst}
 use Prim.Native.Nat.{ℕ, ◌*◌, ◌<◌}
 use native.Mathlib.Nat.{mod-eq_of_lt}

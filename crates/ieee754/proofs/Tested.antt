@@ -1,4 +1,4 @@
--- The hypotenuse by the tests in the code's order: two finite numbers before an infinity, which is 1.0 / 0.0 there as NaN is 0.0 / 0.0. Assumes nothing.
+-- The hypotenuse by the tests in the code's order: two finite numbers before an infinity, which is 1.0 / 0.0 there as NaN is 0.0 / 0.0.
 use mathlib.Core.Path.{◌≡◌, refl, ◌∙◌}
 use mathlib.Core.Bool.{Bool, true, false, cond, ◌&&◌, ◌||◌}
 use lib.Ieee.{Float, nan, inf, fin, binary32, div, lt, eq, is_nan, of_bits}

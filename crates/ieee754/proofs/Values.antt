@@ -1,4 +1,4 @@
--- A float's value, as any of its fractions: `HasValue x s a c` says that x is finite, has the sign s and is a / c in size. Assumes nothing.
+-- A float's value, as any of its fractions: `HasValue x s a c` says that x is finite, has the sign s and is a / c in size.
 use mathlib.Core.Path.{◌≡◌, sym, ap, ◌∙◌, subst}
 use Prim.Native.Nat.{ℕ, ◌*◌, ◌<◌}
 use native.Mathlib.Nat.{mul_comm, mul_assoc, mul_right_comm, mul-pos, eq_of_mul-eq-mul_right}

@@ -1,5 +1,5 @@
 -- `whole_root n` is the largest s with s * s ≤ n: its square is at most n, and that of the next number is above n (`whole_root_lem`).
--- Squares are in the order of their roots (`root_lt`). Assumes nothing.
+-- Squares are in the order of their roots (`root_lt`).
 use Rattle.std.proofs.Common.{◌≡◌, ℕ, zero, suc, ◌+◌, ◌*◌, ◌/◌, ◌^◌, ◌<◌, ◌≤◌, Bool, true, false, cond, not, T, leb, sym, ap, ◌∙◌, subst, zero-le, le_trans, le_of_eq, lt_of_lt_of_le, zero-lt-suc, suc-mul, mul_comm, div-lt_iff_lt-mul, mul-le-mul, pow-suc, lt_of_not-le, le-div_iff_mul-le, mul-suc, not-le_of_lt, arith, lit≤, leb→le}
 use native.Mathlib.Nat.{mul-mul-mul_comm, pow-le-pow_left}
 use lib.Dec.{nleb→lt}

@@ -1,4 +1,4 @@
--- A float and its word at binary32: each gives the other back, except that every NaN's word is written 7fc00000. Assumes nothing.
+-- A float and its word at binary32: each gives the other back, except that every NaN's word is written 7fc00000.
 use mathlib.Core.Path.{◌≡◌, refl, sym, ap, ◌∙◌, subst}
 use Prim.Native.Nat.{ℕ, ◌<◌, ◌^◌}
 use mathlib.Core.Bool.{Bool, true, false, not, cond}

@@ -1,11 +1,11 @@
--- The two clamps of document 01, 'Stand-ins'. They differ at NaN. Assumes nothing.
-use Rattle.std.specs.Prelude.{cond, Float}
+-- The two clamps (docs/RULES.md, 'The two clamps'). They differ at NaN.
+use Rattle.std.specs.Prelude.{if◌then◌else◌, Float}
 use Rattle.std.specs.Float.Ieee.{lt, neg}
 
 -- `clamp` of pid.rs: v > lo gives v if v < hi, else hi; otherwise lo. So NaN gives lo.
 unfoldable pub clamp_between : Float → Float → Float → Float
-clamp_between v lo hi = cond (lt lo v) (cond (lt v hi) v hi) lo
+clamp_between v lo hi = if lt lo v then (if lt v hi then v else hi) else lo
 
 -- `f32::clamp` of body_controller.rs, to -bound and bound: below -bound gives -bound, then above bound gives bound. So NaN stays NaN.
 unfoldable pub clamp_within : Float → Float → Float
-clamp_within v bound = let least = cond (lt v (neg bound)) (neg bound) v in cond (lt bound least) bound least
+clamp_within v bound = let least = if lt v (neg bound) then neg bound else v in if lt bound least then bound else least

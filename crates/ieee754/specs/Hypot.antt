@@ -1,5 +1,5 @@
--- Document 01's stand-in for `hypotf`, step by step. Every step is rounded to binary32. Assumes nothing.
-use Rattle.std.specs.Prelude.{◌+◌, ◌*◌, ◌^◌, Bool, false, true, cond, ◌||◌, leb, Float}
+-- The hypotenuse, step by step, each step rounded to binary32 (docs/RULES.md, 'The hypotenuse').
+use Rattle.std.specs.Prelude.{◌+◌, ◌*◌, ◌^◌, Bool, false, true, if◌then◌else◌, ◌||◌, nat_le, Float}
 use Rattle.std.specs.Float.{nan, inf, fin, binary32}
 use Rattle.std.specs.Float.Ieee.{add, mul, lt, le, eq, is_nan, to_bits, of_bits}
 use Rattle.ieee754.specs.Magnitude.{magnitude}
@@ -25,10 +25,10 @@ two⁻⁹⁰ = of_bits binary32 0x1280_0000
 
 -- the larger and the smaller of two numbers
 unfoldable pub larger : Float → Float → Float
-larger p q = cond (lt p q) q p
+larger p q = if lt p q then q else p
 
 unfoldable pub smaller : Float → Float → Float
-smaller p q = cond (lt q p) q p
+smaller p q = if lt q p then q else p
 
 -- the root of a * a + b * b
 unfoldable pub root_of_squares : Float → Float → Float
@@ -40,20 +40,21 @@ scaled_root k l a b = mul binary32 (root_of_squares (mul binary32 a k) (mul bina
 
 -- b is zero, or too small beside a to count: their bits differ by at least 25 * 2 ^ 23
 unfoldable pub outweighs : Float → Float → Bool
-outweighs a b = eq b (of_bits binary32 0) || leb (to_bits binary32 b + 25 * 2 ^ 23) (to_bits binary32 a)
+outweighs a b = eq b (of_bits binary32 0) || nat_le (to_bits binary32 b + 25 * 2 ^ 23) (to_bits binary32 a)
 
 -- a and b are the larger and the smaller magnitude
 unfoldable pub hypot_of : Float → Float → Float
 hypot_of a b =
-    cond (outweighs a b) (add binary32 a b)
-    (cond (le two⁶⁰ a) (scaled_root two⁻⁹⁰ two⁹⁰ a b)
-    (cond (lt b two⁻⁶⁰) (scaled_root two⁹⁰ two⁻⁹⁰ a b) (root_of_squares a b)))
+    if outweighs a b then add binary32 a b
+    else (if le two⁶⁰ a then scaled_root two⁻⁹⁰ two⁹⁰ a b
+    else (if lt b two⁻⁶⁰ then scaled_root two⁹⁰ two⁻⁹⁰ a b
+    else root_of_squares a b))
 
 -- +infinity if either is infinite, else NaN if either is NaN
 unfoldable pub hypotenuse : Float → Float → Float
 hypotenuse x y =
-    cond (is_inf x || is_inf y) (inf false)
-    (cond (is_nan x || is_nan y) nan
-    (let p = magnitude x in
+    if is_inf x || is_inf y then inf false
+    else (if is_nan x || is_nan y then nan
+    else (let p = magnitude x in
     let q = magnitude y in
     hypot_of (larger p q) (smaller p q)))

@@ -1,4 +1,4 @@
--- A float without its sign, as fabsf and f32::abs have it. Assumes nothing.
+-- A float without its sign, as fabsf and f32::abs have it.
 use Rattle.std.specs.Prelude.{Float, false}
 use Rattle.std.specs.Float.{nan, inf, fin}
 

@@ -1,6 +1,6 @@
 -- IEEE 754 remainder: x - n * y exactly, n the whole number nearest to x / y, the even one at a tie; a zero result has x's sign.
--- Written for any format, as the kit's `rem` is. Assumes nothing.
-use Rattle.std.specs.Prelude.{ℕ, ◌-◌, ◌*◌, Bool, not, cond, leb, eqb, Float}
+-- Written for any format, as std's `rem` is (docs/RULES.md, 'The remainder').
+use Rattle.std.specs.Prelude.{ℕ, ◌-◌, ◌*◌, Bool, not, if◌then◌else◌, nat_le, ◌==◌, Float}
 use Rattle.std.specs.Float.{nan, inf, fin, Format, binary32}
 use Rattle.std.specs.Float.Ieee.{up, down, round, of_bits}
 use Rattle.std.specs.Float.Ieee.Nearest.{closest}
@@ -10,7 +10,7 @@ unfoldable pub least_rest : Format → Bool → ℕ → ℕ → ℕ → Float
 unfolding round
 least_rest f s a b c =
     let n = closest a b in
-    cond (leb (n * b) a) (round f s (a - n * b) c) (round f (not s) (n * b - a) c)
+    if nat_le (n * b) a then round f s (a - n * b) c else round f (not s) (n * b - a) c
 
 -- NaN where x is no number or infinite, or y is no number or zero; x itself where y is infinite.
 unfoldable pub remainder_by : Format → Float → Float → Float
@@ -20,7 +20,7 @@ remainder_by f (inf s) y = nan
 remainder_by f (fin s m e) nan = nan
 remainder_by f (fin s m e) (inf t) = fin s m e
 remainder_by f (fin s m e) (fin t n d) =
-    cond (eqb n 0) nan (least_rest f s (m * up e * down d) (n * up d * down e) (down e * down d))
+    if n == 0 then nan else least_rest f s (m * up e * down d) (n * up d * down e) (down e * down d)
 
 -- 2.0 * PI
 abbrev pub tau : Float

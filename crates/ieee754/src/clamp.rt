@@ -1,9 +1,9 @@
-// The two clamps of document 01, 'Stand-ins', which differ at NaN.
+//! The firmware's two clamps, which differ at NaN (docs/RULES.md, 'The two clamps').
 
 ghost use Rattle.std.specs.Prelude.{◌≡◌};
 ghost use Rattle.ieee754.specs.Clamp.{clamp_between, clamp_within};
 
-// `clamp` of pid.rs: NaN gives lo.
+/// `clamp` of pid.rs: NaN gives lo.
 // Not std's, by which NaN stays, and which asks that lo is at most hi.
 #[tactic(auto, unfolding(crate::specs::Clamp::clamp_between))]
 pub fn clamp(v: f32, lo: f32, hi: f32) -> f32
@@ -16,7 +16,7 @@ pub fn clamp(v: f32, lo: f32, hi: f32) -> f32
     }
 }
 
-// `f32::clamp` to -bound and bound: NaN stays NaN.
+/// `f32::clamp` to -bound and bound: NaN stays NaN.
 // Not std's: it asks that the lower bound is at most the upper one, and any bound is answered here.
 #[tactic(auto, unfolding(crate::specs::Clamp::clamp_within))]
 pub fn clamp_within(v: f32, bound: f32) -> f32

@@ -1,4 +1,4 @@
-// Document 01's stand-in for hypotf.
+//! The hypotenuse (docs/RULES.md, 'The hypotenuse').
 
 ghost use Rattle.std.specs.Prelude.{◌≡◌};
 ghost use Rattle.ieee754.specs.Hypot.{larger, smaller, scaled_root, outweighs, hypot_of, hypotenuse};
@@ -49,7 +49,7 @@ fn hypot_of(a: f32, b: f32) -> f32
     sqrt(a * a + b * b)
 }
 
-// Two numbers, the larger first. By std's max and min it proved, but needs 60 lines more of proof and isn't faster.
+// Two numbers, the larger first. Std's max and min are not faster, and ask for more proof.
 #[tactic(auto, unfolding(crate::specs::Hypot::larger, crate::specs::Hypot::smaller))]
 fn larger_first(p: f32, q: f32) -> (f32, f32)
     ensures { result ≡ (larger p q, smaller p q) }
@@ -57,7 +57,8 @@ fn larger_first(p: f32, q: f32) -> (f32, f32)
     (if p < q { q } else { p }, if q < p { q } else { p })
 }
 
-// hypotf. The usual case, two finite numbers, comes first.
+/// The root of x * x + y * y without overflow in between, as C's hypotf.
+// The usual case, two finite numbers, comes first.
 #[tactic(auto, using(crate::proofs::Tested::finite_sides, crate::proofs::Tested::infinite_side, crate::proofs::Tested::nan_side))]
 pub fn hypot(x: f32, y: f32) -> f32
     ensures { result ≡ hypotenuse x y }

@@ -1,4 +1,4 @@
-// What is proved of roots, remainders, hypotenuses, words and clamps: functions that do nothing, for their clauses.
+//! What is proved of roots, remainders, hypotenuses, words and clamps: functions that do nothing, for their clauses.
 
 ghost use Rattle.ieee754.specs.Laws.{RootIsNearest, RemainderIsExact, RemainderIsSmall, RemainderIsEven};
 ghost use Rattle.ieee754.specs.Laws.{RemainderZeroHasSign, RemIsExact, HypotIsSymmetric, WrittenWordIsRead};

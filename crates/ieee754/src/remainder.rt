@@ -1,4 +1,4 @@
-// IEEE 754 remainder by 2.0 * PI.
+//! IEEE 754 remainder by 2.0 * PI (docs/RULES.md, 'The remainder').
 
 ghost use Rattle.std.specs.Prelude.{◌≡◌, ◌*◌, ◌%◌, ◌^◌, ◌<◌};
 ghost use Rattle.std.specs.Float.{binary32};
@@ -38,7 +38,8 @@ fn rest(x: f32) -> f32
     if b < 0x8000_0000 { y } else { -y }
 }
 
-// remainderf(x, 2.0 * PI). The rest has x's sign and is less than 2.0 * PI. What lies beyond PI is
+/// C's remainderf(x, 2.0 * PI): x less the nearest multiple, the even one at a tie.
+// The rest has x's sign and is less than 2.0 * PI. What lies beyond PI is
 // nearer to the next multiple; PI itself is reached only by x = PI and x = -PI, whose nearest even
 // multiple is 0.
 pub fn remainder(x: f32) -> f32

@@ -1,5 +1,5 @@
-// IEEE 754 squareRoot at binary32, by whole numbers: the root of a significand, and half of an
-// exponent.
+//! IEEE 754 squareRoot at binary32, by whole numbers: the root of a significand, and half of an
+//! exponent (docs/RULES.md, 'The root').
 
 ghost use Rattle.std.specs.Prelude.{◌≡◌, ◌+◌, ◌*◌, ◌%◌, ◌^◌, ◌<◌, ◌≤◌};
 ghost use Rattle.std.specs.Float.{binary32};
@@ -92,7 +92,8 @@ fn subnormal_root(b: u32) -> f32
     Parts { m, e }.root(m % 0x80_0000 + (e + 1) % 2 * 0x80_0000)
 }
 
-// sqrtf. The usual case, a normal float above zero, comes first.
+/// The square root, rounded once, as C's sqrtf.
+// The usual case, a normal float above zero, comes first.
 #[tactic(auto, using(crate::proofs::Words::equal_number, crate::proofs::Positive::nan_root, crate::proofs::Positive::normal_root, crate::proofs::Positive::zero_root, crate::proofs::Positive::small_root, crate::proofs::Positive::negative_made, crate::proofs::Positive::last_root))]
 pub fn sqrt(x: f32) -> f32
     ensures { result ≡ square_root binary32 x }

@@ -1,4 +1,4 @@
--- Arrays that `from_fn` makes by a closure that computes h of the index, or that a loop writes. Assumes nothing.
+-- Arrays that `from_fn` makes by a closure that computes h of the index, or that a loop writes.
 use Rattle.std.proofs.Common.{◌≡◌, refl, sym, subst, ◌∙◌, ℕ, zero, suc, ◌+◌, ◌<◌, ◌≤◌, inl, inr, List, map, length, get_or, arith}
 use denote.Param.Members.{Mut, Called}
 use Rattle.std.specs.Array.{IsFromFnResult, IsFromFnResultFrom}

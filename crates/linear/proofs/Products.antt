@@ -1,4 +1,4 @@
--- The dot product as std's `reduce` of the products. Assumes nothing.
+-- The dot product as std's `reduce` of the products.
 use Rattle.std.proofs.Common.{◌≡◌, refl, sym, ap, subst, ◌∙◌, List, [], ◌∷◌, map, Float, Option, Some, None}
 use mathlib.Core.List.{map-id}
 use denote.Param.Members.{Mut, Called}

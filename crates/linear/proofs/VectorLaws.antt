@@ -1,4 +1,4 @@
--- 0.0 is positive zero; the dot product written out at the two widths in use: from the left, starting with the first product. Assumes nothing.
+-- 0.0 is positive zero; the dot product written out at the two widths in use: from the left, starting with the first product.
 use mathlib.Core.Path.{◌≡◌, refl}
 use lib.Ieee.{binary32, add, mul, of_bits, to_bits}
 use Rattle.linear.specs.declared.Vector3f.{Vector3f}

@@ -1,2 +1,2 @@
--- Laws that belong to no one function of `rotation`. Assumes nothing.
+-- Laws that belong to no one function of `rotation`.
 pub mod Laws

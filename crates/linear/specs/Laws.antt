@@ -1,4 +1,4 @@
--- What holds of the products of `na` and `linear` and of the two rotations: each statement is a clause of a function of src/laws.rt.
+-- What holds of the products of matrices and vectors and of the two rotations: each statement is a clause of a function of src/laws.rt.
 use Rattle.std.specs.Prelude.{◌≡◌, Bool, [], ◌∷◌, Float}
 use Rattle.std.specs.Float.{nan, inf, binary32}
 use Rattle.std.specs.Float.Ieee.{add, mul, neg}

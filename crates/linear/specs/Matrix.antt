@@ -1,4 +1,4 @@
--- The product of a matrix and a vector: each entry is a row's dot product with the vector. Assumes nothing.
+-- The product of a matrix and a vector: each entry is a row's dot product with the vector.
 use Rattle.std.specs.Prelude.{ℕ, List, map, Float}
 use Rattle.linear.specs.declared.matrix.Matrix.{Matrix}
 use Rattle.linear.specs.Vector.{dot_of}

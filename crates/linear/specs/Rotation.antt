@@ -1,4 +1,4 @@
--- Rotation by a given cosine and sine, document 01, 'Stand-ins'. Assumes nothing.
+-- Rotation by a given cosine and sine (docs/RULES.md, 'Products').
 use Rattle.std.specs.Prelude.{[], ◌∷◌}
 use Rattle.std.specs.Float.Ieee.{neg}
 use Rattle.linear.specs.declared.Vector3f.{Vector3f}
@@ -22,4 +22,4 @@ to_global r v = vector3_of (product_of (z_rotation r) (entries3 v))
 
 -- to global by the opposite angle: the same cosine, the sine negated
 unfoldable pub to_local : Rotation → Vector3f → Vector3f
-to_local r v = to_global (record { cos = r.cos; sin = neg r.sin }) v
+to_local r v = to_global (record r { sin = neg r.sin }) v

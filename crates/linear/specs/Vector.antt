@@ -1,5 +1,4 @@
 -- 0.0 and 1.0; zeros, sums, differences, multiples and dot products of vectors, every step rounded to binary32; and a vector from its entries, and they from it.
--- Assumes nothing.
 use Rattle.std.specs.Prelude.{ℕ, List, [], ◌∷◌, get_or, Float}
 use Rattle.std.specs.Float.{binary32}
 use Rattle.std.specs.Float.Ieee.{add, sub, mul, of_bits}

@@ -1,4 +1,4 @@
-// What is proved of products and rotations: functions that do nothing, for their clauses.
+//! What is proved of products and rotations: functions that do nothing, for their clauses.
 
 ghost use Rattle.linear.specs.Laws.{DotOfThree, DotOfFour, ZerosAreSummed, LocalIsGlobal, LocalRows};
 

@@ -1,18 +1,17 @@
-// nalgebra's vectors, their zeros, and arrays of their entries. Nearly every crate reads this one;
-// `linear::vectors` has the operations.
-// nalgebra's part: operations on vectors, matrices by rows, rotation. Every step is rounded to f32.
+//! The firmware's part of nalgebra: vectors, matrices by rows, rotation. Every step is rounded to f32.
 #![tactic(auto)]
 
 ghost use Rattle.std.specs.Prelude.{◌≡◌};
 ghost use Rattle.linear.specs.Vector.{entries2, entries3, entries4, vector2_of, vector3_of, vector4_of, vector6_of};
 
-// No one type, zero or `From` over the length: document 01 has nalgebra's vectors as structs of floats.
+/// nalgebra's vector of two.
 #[derive(Clone, Copy, PartialEq)]
 pub struct Vector2f {
     pub x: f32,
     pub y: f32,
 }
 
+/// nalgebra's vector of three. A pose has the heading, in radians, as z, and a twist the angular velocity, in rad/s.
 #[derive(Clone, Copy, PartialEq)]
 pub struct Vector3f {
     pub x: f32,
@@ -20,6 +19,7 @@ pub struct Vector3f {
     pub z: f32,
 }
 
+/// nalgebra's vector of four: of wheels, an entry each.
 #[derive(Clone, Copy, PartialEq)]
 pub struct Vector4f {
     pub x: f32,
@@ -28,22 +28,25 @@ pub struct Vector4f {
     pub w: f32,
 }
 
-// Document 01's six of state: x, y and heading, and their velocities.
+/// A state: x, y and heading, and their velocities.
 #[derive(Clone, Copy, PartialEq)]
 pub struct Vector6f {
     pub pose: Vector3f,
     pub twist: Vector3f,
 }
 
+/// Two zeros.
 // Zeros are constants and no derived `Default`, which is a call: other constants are made of them.
 pub const ZEROS_2: Vector2f = Vector2f { x: 0.0, y: 0.0 };
 
+/// Three zeros.
 pub const ZEROS_3: Vector3f = Vector3f {
     x: 0.0,
     y: 0.0,
     z: 0.0,
 };
 
+/// Four zeros.
 pub const ZEROS_4: Vector4f = Vector4f {
     x: 0.0,
     y: 0.0,
@@ -51,6 +54,7 @@ pub const ZEROS_4: Vector4f = Vector4f {
     w: 0.0,
 };
 
+/// Six zeros.
 pub const ZEROS_6: Vector6f = Vector6f {
     pose: ZEROS_3,
     twist: ZEROS_3,

@@ -1,10 +1,10 @@
-// Rotation about the vertical, by a given cosine and sine.
+//! Rotation about the vertical, by a given cosine and sine.
 ghost use Rattle.std.specs.Prelude.{◌≡◌};
 ghost use Rattle.linear.specs.Rotation.{z_rotation, to_global, to_local};
 
 use crate::{Matrix3, Vector3f};
 
-// By the angle with this cosine and sine.
+/// By the angle with this cosine and sine.
 #[derive(Clone, Copy)]
 pub struct Rotation {
     pub cos: f32,
@@ -23,7 +23,7 @@ impl Rotation {
         }
     }
 
-    // v turned from local axes to global ones.
+    /// v turned from local axes to global ones.
     #[tactic(auto, unfolding(crate::specs::Rotation::to_global))]
     pub fn to_global(self, v: Vector3f) -> Vector3f
         ensures { result ≡ to_global self v }
@@ -31,7 +31,7 @@ impl Rotation {
         Vector3f::from(self.z_rotation_mat().mul(v.into()))
     }
 
-    // v turned from global axes to local ones: by the opposite angle, whose sine is -sin.
+    /// v turned from global axes to local ones: by the opposite angle, whose sine is -sin.
     #[tactic(auto, unfolding(crate::specs::Rotation::to_local))]
     pub fn to_local(self, v: Vector3f) -> Vector3f
         ensures { result ≡ to_local self v }

@@ -1,10 +1,11 @@
-// The operations on vectors that the tick uses and no others.
+//! Sums, multiples and dot products of vectors.
 
 ghost use Rattle.std.specs.Prelude.{◌≡◌};
 ghost use Rattle.linear.specs.Vector.{sum_of, difference_of, scaled, dot_of};
 
 use crate::Vector3f;
 
+/// The sum, entry by entry.
 #[tactic(auto, unfolding(crate::specs::Vector::sum_of))]
 pub fn add(v: Vector3f, o: Vector3f) -> Vector3f
     ensures { result ≡ sum_of v o }
@@ -16,6 +17,7 @@ pub fn add(v: Vector3f, o: Vector3f) -> Vector3f
     }
 }
 
+/// v less o, entry by entry.
 #[tactic(auto, unfolding(crate::specs::Vector::difference_of))]
 pub fn sub(v: Vector3f, o: Vector3f) -> Vector3f
     ensures { result ≡ difference_of v o }
@@ -27,7 +29,7 @@ pub fn sub(v: Vector3f, o: Vector3f) -> Vector3f
     }
 }
 
-// Each entry times k.
+/// Each entry times k.
 #[tactic(auto, unfolding(crate::specs::Vector::scaled))]
 pub fn scale(v: Vector3f, k: f32) -> Vector3f
     ensures { result ≡ scaled v k }
@@ -39,7 +41,7 @@ pub fn scale(v: Vector3f, k: f32) -> Vector3f
     }
 }
 
-// The products of the entries, summed from the left, the first product first.
+/// The products of the entries, summed from the left, the first product first.
 pub fn dot<const N: usize>(v: [f32; N], o: [f32; N]) -> f32
     ensures { result ≡ dot_of v.entry o.entry }
 {

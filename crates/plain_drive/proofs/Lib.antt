@@ -3,3 +3,4 @@ pub mod Simulation
 pub mod PlainSteps
 pub mod Watched
 pub mod EveryList
+pub mod Starts

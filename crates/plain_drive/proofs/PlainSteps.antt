@@ -8,7 +8,7 @@ use borrow.Author.Tests.{ltb-true}
 use lib.Dec.{ltb}
 use Rattle.linear.specs.declared.Vector4f.{Vector4f}
 use Rattle.linear.specs.declared.Vector6f.{Vector6f}
-use Rattle.params.specs.Params.{vision_clock_start_s}
+use Rattle.params.specs.declared.TheConstants.{VISION_CLOCK_START_S}
 use Rattle.vision.specs.declared.gate.VisionGateState.TheVariants.{Seeding}
 use Rattle.vision.specs.Seeding.{fresh_seeding}
 use Rattle.tick.specs.declared.command.ManeuverCommand.{ManeuverCommand}
@@ -35,7 +35,7 @@ resets s call to = is_reset call || (is_recovering s.recovering && not (is_recov
 
 -- gate and clock of t: cleared, or those of s
 abbrev pub VisionFrom : Bool → DriveState → DriveState → Type 0
-VisionFrom true s t = (t.gate ≡ Seeding fresh_seeding) × (t.clock ≡ vision_clock_start_s)
+VisionFrom true s t = (t.gate ≡ Seeding fresh_seeding) × (t.clock ≡ VISION_CLOCK_START_S)
 VisionFrom false s t = (t.gate ≡ s.gate) × (t.clock ≡ s.clock)
 
 -- a call that is no tick

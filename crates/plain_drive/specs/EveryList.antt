@@ -165,6 +165,11 @@ FollowsPlainDrive = (start : Start) (h : List Entry) (c : BodyController) → Is
 abbrev pub NewIsStarted : Type 0
 NewIsStarted = (k : ℕ) → 1 ≤ k → k ≤ 64 → (start : Start) × IsStart start × (start.tick_length ≡ k) × (new_of k ≡ Ok (started start))
 
+-- and makes no other, whatever k is
+abbrev pub OnlyStartedIsNew : Type 0
+OnlyStartedIsNew =
+    (k : ℕ) (c : BodyController) → new_of k ≡ Ok c → (start : Start) × IsStart start × (start.tick_length ≡ k) × (c ≡ started start)
+
 -- every list of calls has a run
 abbrev pub EveryListRuns : Type 0
 EveryListRuns = (start : Start) (calls : List Call) → IsStart start → (h : List Entry) × (c : BodyController) × (calls_of h ≡ calls) × Made start h c

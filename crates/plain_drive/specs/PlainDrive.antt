@@ -3,7 +3,7 @@
 use Rattle.std.specs.Prelude.{ℕ, zero, suc, ◌+◌, Bool, true, false, if◌then◌else◌, not, ◌&&◌, ◌||◌, List, [], ◌∷◌, nat_lt, Float, Option, None, Some, option_map, Result, Ok, Err}
 use Rattle.linear.specs.declared.Vector6f.{Vector6f}
 use Rattle.linear.specs.Vector.{zeros6}
-use Rattle.params.specs.Params.{vision_clock_start_s}
+use Rattle.params.specs.declared.TheConstants.{VISION_CLOCK_START_S}
 use Rattle.tick.specs.declared.command.ManeuverCommand.{ManeuverCommand}
 use Rattle.tick.specs.declared.inputs.SightInput.{SightInput}
 use Rattle.tick.specs.declared.inputs.PlanInput.{PlanInput}
@@ -54,7 +54,7 @@ pub record DriveState : Type 0 where
 abbrev pub new_drive : DriveState
 new_drive = record {
   gate = Seeding fresh_seeding;
-  clock = vision_clock_start_s;
+  clock = VISION_CLOCK_START_S;
   recovering = Normal;
   held = None;
   previous = None;
@@ -144,7 +144,7 @@ on_plan to_finish s i = turned_away 2 s
 
 -- by call or by recovery: a fresh seeding, the clock at its start, Normal, nothing held, no previous command
 abbrev pub cleared : DriveState → DriveState
-cleared s = record s { gate = Seeding fresh_seeding; clock = vision_clock_start_s; recovering = Normal; held = None; previous = None }
+cleared s = record s { gate = Seeding fresh_seeding; clock = VISION_CLOCK_START_S; recovering = Normal; held = None; previous = None }
 
 -- a reset call also sets the previous mode off, and closes the tick
 abbrev pub on_reset : DriveState → Step

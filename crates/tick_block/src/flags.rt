@@ -18,6 +18,7 @@ pub enum Flag {
 }
 
 impl Flag {
+    /// Whether the flag's bit is set in the flags' word.
     pub fn is_set(self, block: &[u8]) -> bool
         ensures { result ≡ flag_at block.now (bit_of self) }
     {

@@ -1,7 +1,8 @@
 //! What the four calls of a tick take, read from a tick block.
 
 ghost use Rattle.std.specs.Prelude.{◌≡◌, ◌+◌, ◌*◌, ◌≤◌};
-ghost use Rattle.tick_block.specs.Inputs.{first_words, command_words, matrix_at, sample_at, sight_input, plan_input, steer_input, finish_input, tick_input};
+ghost use Rattle.tick_block.specs.Inputs.{first_words, command_words, matrix_at, sample_at};
+ghost use Rattle.tick_block.specs.Inputs.{sight_input, plan_input, steer_input, finish_input, tick_input};
 
 use crate::flags::Flag;
 use crate::floats::{float_at, floats_at};
@@ -61,6 +62,7 @@ fn sample_at(block: &[u8], at: usize) -> Sample
     }
 }
 
+/// What sight takes.
 #[tactic(auto, using(crate::proofs::Vectors::three, crate::proofs::Vectors::four), unfolding(crate::specs::Inputs::sight_input, crate::specs::Floats::vector6_at))]
 pub fn sight_input(block: &[u8]) -> SightInput
     ensures { result ≡ sight_input block.now }
@@ -90,6 +92,7 @@ pub fn plan_input(block: &[u8]) -> PlanInput
     }
 }
 
+/// What steer takes.
 #[tactic(auto, using(crate::proofs::Vectors::four), unfolding(crate::specs::Inputs::steer_input))]
 pub fn steer_input(block: &[u8]) -> SteerInput
     ensures { result ≡ steer_input block.now }
@@ -107,6 +110,7 @@ pub fn steer_input(block: &[u8]) -> SteerInput
     }
 }
 
+/// What finish takes.
 #[tactic(auto, using(crate::proofs::Vectors::three), unfolding(crate::specs::Inputs::finish_input))]
 pub fn finish_input(block: &[u8]) -> FinishInput
     ensures { result ≡ finish_input block.now }
@@ -119,6 +123,7 @@ pub fn finish_input(block: &[u8]) -> FinishInput
     }
 }
 
+/// What the four calls take, each its own.
 pub fn tick_input(block: &[u8]) -> TickInput
     ensures { result ≡ tick_input block.now }
 {

@@ -3,13 +3,16 @@
 /// The length of a tick block.
 pub const BLOCK_BYTES: usize = 512;
 
+/// The version, 1.
 pub const VERSION: usize = 0;
 
 /// The tick's number in its pass.
 pub const NUMBER: usize = 1;
 
+/// The flags, one bit each.
 pub const FLAGS: usize = 2;
 
+/// The mode's number.
 pub const MODE: usize = 3;
 
 /// Three words: the sighted pose.
@@ -18,6 +21,7 @@ pub const SIGHTING: usize = 4;
 /// Four words: the measured wheel speeds, which sight and steer both take.
 pub const WHEELS: usize = 7;
 
+/// The measured angular velocity, in rad/s.
 pub const GYRO: usize = 11;
 
 /// Six words: the estimator's prediction.

@@ -14,7 +14,8 @@ pub fn order_tested(
     number: u32,
     next: u32,
 ) -> Result<(), Refusal>
-    ensures { (result ≡ order_tested tick_length own number next) × (number_of result ≡ order_of tick_length own number next) }
+    ensures answer { result ≡ order_tested tick_length own number next }
+    ensures number { number_of result ≡ order_of tick_length own number next }
 {
     if tick_length != own {
         return Err(Refusal::OtherTickLength);

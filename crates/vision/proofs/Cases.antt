@@ -8,7 +8,7 @@ use Rattle.std.specs.Prelude.{Option, None, Some, option_map}
 use Rattle.ieee754.specs.Hypot.{hypotenuse, hypot_of, outweighs, larger, smaller, root_of_squares, scaled_root}
 use Rattle.ieee754.specs.Magnitude.{magnitude}
 use Rattle.ieee754.specs.Root.{square_root, root_of, whole_root, root_digits, sticky}
-use Rattle.params.specs.Params.{vision_gate_base_radius_m}
+use Rattle.params.specs.declared.TheConstants.{VISION_GATE_BASE_RADIUS_M}
 use Rattle.linear.specs.Vector.{zero_float, zeros2, zeros3, zeros6}
 use Rattle.tick.specs.TickLength.{seconds_of}
 use Rattle.tick.specs.declared.action.GateAction.TheVariants.{Accumulate, SeedComplete, SeedReset, AcceptJump, FirstReject, Reject}
@@ -79,11 +79,11 @@ unfolding tick
 quiet_later = refl
 
 -- at the base itself, with the radius beyond it: a jump
-pub base_jumps : (tick (tick (Tracking zero_float) None).gate (Some vision_gate_base_radius_m)).action ≡ AcceptJump
+pub base_jumps : (tick (tick (Tracking zero_float) None).gate (Some VISION_GATE_BASE_RADIUS_M)).action ≡ AcceptJump
 unfolding tick
 base_jumps = refl
 
 -- at the radius itself: refused
-pub radius_refused : (tick (Tracking zero_float) (Some vision_gate_base_radius_m)).action ≡ FirstReject
+pub radius_refused : (tick (Tracking zero_float) (Some VISION_GATE_BASE_RADIUS_M)).action ≡ FirstReject
 unfolding tick
 radius_refused = refl

@@ -11,7 +11,7 @@ use lib.Ieee.Bits.{is_true}
 use lib.Ieee.Exact.{HasValue}
 use lib.Ieee.Order.{le_of_values}
 use lib.Ieee.Positive.{positive, positive_of_value, values_of_le}
-use Rattle.params.specs.Params.{vision_active_timeout_s, vision_clock_start_s}
+use Rattle.params.specs.declared.TheConstants.{VISION_ACTIVE_TIMEOUT_S, VISION_CLOCK_START_S}
 use Rattle.linear.specs.Vector.{zero_float}
 use Rattle.tick.specs.TickLength.{seconds_of}
 use Rattle.vision.specs.Vision.{active, clock_after}
@@ -19,11 +19,11 @@ use Rattle.vision.specs.Since.{clock_since}
 use Rattle.vision.proofs.Ticks.{tick_exact, zero_value}
 
 -- 0.5
-timeout_value : HasValue vision_active_timeout_s false 1 2
+timeout_value : HasValue VISION_ACTIVE_TIMEOUT_S false 1 2
 unfolding of_bits
 timeout_value = (refl, refl)
 
-timeout_positive : T (positive vision_active_timeout_s)
+timeout_positive : T (positive VISION_ACTIVE_TIMEOUT_S)
 unfolding of_bits
 timeout_positive = tt
 
@@ -35,12 +35,12 @@ active_at_lem clock a v = go (leb a 2048) refl
     refuted true h = absurd (h tt)
     refuted false h = refl
 
-    go : (b : Bool) → leb a 2048 ≡ b → le clock vision_active_timeout_s ≡ b
-    go true e = is_true (le clock vision_active_timeout_s) (le_of_values clock vision_active_timeout_s a 4096 1 2 (lit< tt) (lit< tt) v timeout_value (omega (arith, leb-true a 2048 e)))
+    go : (b : Bool) → leb a 2048 ≡ b → le clock VISION_ACTIVE_TIMEOUT_S ≡ b
+    go true e = is_true (le clock VISION_ACTIVE_TIMEOUT_S) (le_of_values clock VISION_ACTIVE_TIMEOUT_S a 4096 1 2 (lit< tt) (lit< tt) v timeout_value (omega (arith, leb-true a 2048 e)))
     go false e =
         let beyond : 2048 < a = leb-false a 2048 e in
-        refuted (le clock vision_active_timeout_s) λ t.
-        let h = values_of_le clock vision_active_timeout_s a 4096 1 2 (positive_of_value clock a 4096 v (omega arith)) timeout_positive v timeout_value t in
+        refuted (le clock VISION_ACTIVE_TIMEOUT_S) λ t.
+        let h = values_of_le clock VISION_ACTIVE_TIMEOUT_S a 4096 1 2 (positive_of_value clock a 4096 v (omega arith)) timeout_positive v timeout_value t in
         omega arith
 
 -- while active, a tick that takes nothing adds dt; then the clock stands still
@@ -84,16 +84,16 @@ since_taken_lem k (suc m) K = tick k m K (since_taken_lem k m K)
 
 -- ---- new or reset
 
-start_inactive : active vision_clock_start_s ≡ false
+start_inactive : active VISION_CLOCK_START_S ≡ false
 unfolding le of_bits
 start_inactive = refl
 
 -- the clock stays at 1.5
-pub reset_stands : (dt : Float) (m : ℕ) → clock_since vision_clock_start_s dt m ≡ vision_clock_start_s
+pub reset_stands : (dt : Float) (m : ℕ) → clock_since VISION_CLOCK_START_S dt m ≡ VISION_CLOCK_START_S
 unfolding clock_since
 reset_stands dt zero = refl
-reset_stands dt (suc m) = ap (λ (c : Float). clock_after c false dt) (reset_stands dt m) ∙ inactive_stands vision_clock_start_s dt start_inactive
+reset_stands dt (suc m) = ap (λ (c : Float). clock_after c false dt) (reset_stands dt m) ∙ inactive_stands VISION_CLOCK_START_S dt start_inactive
 
 -- and is never active
-pub since_reset : (dt : Float) (m : ℕ) → active (clock_since vision_clock_start_s dt m) ≡ false
+pub since_reset : (dt : Float) (m : ℕ) → active (clock_since VISION_CLOCK_START_S dt m) ≡ false
 since_reset dt m = ap active (reset_stands dt m) ∙ start_inactive

@@ -8,7 +8,7 @@ use borrow.Author.Tests.{ltb-true, le-ltb}
 use lib.Dec.{lit<, ltb}
 use lib.Ieee.{Float, nan, binary32, add, lt, le, eq}
 use Rattle.std.specs.Prelude.{Option, None, Some}
-use Rattle.params.specs.Params.{vision_seed_samples, vision_seed_pos_std_thresh_m, vision_gate_base_radius_m}
+use Rattle.params.specs.declared.TheConstants.{VISION_SEED_SAMPLES, VISION_SEED_POS_STD_THRESH_M, VISION_GATE_BASE_RADIUS_M}
 use Rattle.linear.specs.declared.Vector3f.{Vector3f}
 use Rattle.linear.specs.declared.Vector6f.{Vector6f}
 use Rattle.linear.specs.Vector.{zero_float}
@@ -27,7 +27,7 @@ use Rattle.vision.specs.Laws.{Taken, Waiting, Seeded}
 
 -- strictly inside the radius
 pub inside_taken : (t d dt : Float) → lt d (radius t) ≡ true → Taken (tracking_judged t d dt)
-inside_taken t d dt h = rw h (jump_or_accept (le vision_gate_base_radius_m d), refl)
+inside_taken t d dt h = rw h (jump_or_accept (le VISION_GATE_BASE_RADIUS_M d), refl)
   where
     jump_or_accept : (far : Bool) → takes (cond far AcceptJump Accept) ≡ true
     jump_or_accept true = refl
@@ -57,10 +57,10 @@ tracking_either t d dt = go (lt d (radius t)) refl
 -- ---- seeding
 
 pub seeding_either : (s : Seeding) → Seeded s
-seeding_either s = go (ltb s.n vision_seed_samples) (steady s) refl refl
+seeding_either s = go (ltb s.n VISION_SEED_SAMPLES) (steady s) refl refl
   where
-    go : (few still : Bool) → ltb s.n vision_seed_samples ≡ few → steady s ≡ still → Seeded s
-    go true still e f = inl (ltb-true s.n vision_seed_samples e, rw e)
+    go : (few still : Bool) → ltb s.n VISION_SEED_SAMPLES ≡ few → steady s ≡ still → Seeded s
+    go true still e f = inl (ltb-true s.n VISION_SEED_SAMPLES e, rw e)
     go false true e f = inr (inl (rw (e, f)))
     go false false e f = inr (inr (rw (e, f)))
 
@@ -68,15 +68,15 @@ seeding_either s = go (ltb s.n vision_seed_samples) (steady s) refl refl
 nan_unsteady : (s : Seeding) → (deviation_x s ≡ nan) ⊎ (deviation_y s ≡ nan) → steady s ≡ false
 unfolding lt
 nan_unsteady s (inl z) = rw z
-nan_unsteady s (inr z) = rw z (never (lt (deviation_x s) vision_seed_pos_std_thresh_m))
+nan_unsteady s (inr z) = rw z (never (lt (deviation_x s) VISION_SEED_POS_STD_THRESH_M))
   where
     never : (b : Bool) → b && false ≡ false
     never true = refl
     never false = refl
 
 -- so at the 20th it gives S
-pub nan_reseeds : (s : Seeding) → vision_seed_samples ≤ s.n → (deviation_x s ≡ nan) ⊎ (deviation_y s ≡ nan) → seeding_judged s ≡ record { action = SeedReset; gate = Gate.Seeding fresh_seeding }
-nan_reseeds s h z = rw (le-ltb s.n vision_seed_samples h, nan_unsteady s z)
+pub nan_reseeds : (s : Seeding) → VISION_SEED_SAMPLES ≤ s.n → (deviation_x s ≡ nan) ⊎ (deviation_y s ≡ nan) → seeding_judged s ≡ record { action = SeedReset; gate = Gate.Seeding fresh_seeding }
+nan_reseeds s h z = rw (le-ltb s.n VISION_SEED_SAMPLES h, nan_unsteady s z)
 
 -- ---- the gate after a tick
 
@@ -114,7 +114,7 @@ refused_seeds (Gate.Seeding s) (Some v) p start h e =
 
 -- a seeding of fewer than 20 sightings, or a gate that is tracking
 abbrev pub Small : VisionGateState → Type 0
-Small (Gate.Seeding s) = s.n < vision_seed_samples
+Small (Gate.Seeding s) = s.n < VISION_SEED_SAMPLES
 Small (Gate.Tracking t) = Unit {0}
 
 pub fresh_small : Small (Gate.Seeding fresh_seeding)

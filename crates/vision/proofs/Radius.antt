@@ -10,7 +10,7 @@ use lib.Dec.{T, lit<, lit≤, eqb, eqb-suc-zero}
 use lib.Ieee.{Float, binary32, round, mul, of_int, of_bits, lt, le, eq}
 use lib.Ieee.Bits.{is_true}
 use lib.Ieee.Back.{round_whole}
-use Rattle.params.specs.Params.{vision_gate_base_radius_m, vision_gate_expand_rate_m_per_s}
+use Rattle.params.specs.declared.TheConstants.{VISION_GATE_BASE_RADIUS_M, VISION_GATE_EXPAND_RATE_M_PER_S}
 use Rattle.linear.specs.Vector.{zero_float}
 use Rattle.tick.specs.TickLength.{seconds_of}
 use Rattle.tick.specs.declared.start.Start.{Start}
@@ -29,14 +29,14 @@ use Rattle.vision.proofs.Ticks.{exact_at, sum_reaches}
 use Rattle.vision.proofs.Outcomes.{inside_taken}
 
 -- the base is at least half a metre
-base_least : AtLeast vision_gate_base_radius_m 2048 4096
+base_least : AtLeast VISION_GATE_BASE_RADIUS_M 2048 4096
 unfolding of_bits
 base_least = (refl, lit≤ tt)
 
 -- from t = D / 2 s on the radius is at least D + 1/2
 radius_least : (t : Float) (D : ℕ) → 1 ≤ D → D ≤ 64 → AtLeast t (2048 * D) 4096 → AtLeast (radius t) (2048 + 2 * (2048 * D)) 4096
 radius_least t D l h p =
-    add_least vision_gate_base_radius_m (mul binary32 vision_gate_expand_rate_m_per_s t) 2048 (2 * (2048 * D)) (2048 + 2 * (2048 * D)) 4096 (omega arith) (lit< tt)
+    add_least VISION_GATE_BASE_RADIUS_M (mul binary32 VISION_GATE_EXPAND_RATE_M_PER_S t) 2048 (2 * (2048 * D)) (2048 + 2 * (2048 * D)) 4096 (omega arith) (lit< tt)
     (exact_at (2048 + 2 * (2048 * D)) (omega arith)) (le_refl (2048 + 2 * (2048 * D))) base_least
     (double_least t (2048 * D) 4096 (omega arith) (lit< tt) (exact_at (2 * (2048 * D)) (omega arith)) p)
 

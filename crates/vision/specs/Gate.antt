@@ -6,7 +6,7 @@ use Rattle.ieee754.specs.Hypot.{hypotenuse}
 use Rattle.linear.specs.declared.Vector3f.{Vector3f}
 use Rattle.linear.specs.declared.Vector6f.{Vector6f}
 use Rattle.linear.specs.Vector.{zero_float}
-use Rattle.params.specs.Params.{vision_seed_samples, vision_gate_base_radius_m, vision_gate_expand_rate_m_per_s}
+use Rattle.params.specs.declared.TheConstants.{VISION_SEED_SAMPLES, VISION_GATE_BASE_RADIUS_M, VISION_GATE_EXPAND_RATE_M_PER_S}
 use Rattle.vision.specs.declared.gate.VisionGateState.{VisionGateState}
 use Rattle.vision.specs.declared.gate.VisionGateState.TheVariants as Gate
 use Rattle.tick.specs.declared.start.Start.{Start}
@@ -25,7 +25,7 @@ pub record Judgement : Type 0 where
 -- below the 20th sighting it gathers on; at the 20th it tracks from 0.0 if both deviations are small, and else starts anew
 abbrev pub seeding_judged : Seeding → Judgement
 seeding_judged s =
-    if nat_lt s.n vision_seed_samples then record { action = Accumulate; gate = Gate.Seeding s }
+    if nat_lt s.n VISION_SEED_SAMPLES then record { action = Accumulate; gate = Gate.Seeding s }
     else if steady s then record { action = SeedComplete; gate = Gate.Tracking zero_float }
     else record { action = SeedReset; gate = Gate.Seeding fresh_seeding }
 
@@ -37,13 +37,13 @@ distance v p = hypotenuse (sub binary32 v.x p.pose.x) (sub binary32 v.y p.pose.y
 
 -- the base, and 2.0 m more for each second of t
 abbrev pub radius : Float → Float
-radius t = add binary32 vision_gate_base_radius_m (mul binary32 vision_gate_expand_rate_m_per_s t)
+radius t = add binary32 VISION_GATE_BASE_RADIUS_M (mul binary32 VISION_GATE_EXPAND_RATE_M_PER_S t)
 
 -- strictly inside the radius the sighting is taken, beyond the base as a jump, and t is 0.0 again; else it is refused, first
 -- where t is 0.0, and t grows by dt. A NaN distance is not inside.
 abbrev pub tracking_judged : Float → Float → Float → Judgement
 tracking_judged t d dt =
-    if lt d (radius t) then record { action = if le vision_gate_base_radius_m d then AcceptJump else Accept; gate = Gate.Tracking zero_float }
+    if lt d (radius t) then record { action = if le VISION_GATE_BASE_RADIUS_M d then AcceptJump else Accept; gate = Gate.Tracking zero_float }
     else record { action = if eq t zero_float then FirstReject else Reject; gate = Gate.Tracking (add binary32 t dt) }
 
 -- ---- one tick

@@ -6,7 +6,7 @@ use Rattle.std.specs.Float.Ieee.Exact.{HasValue}
 use Rattle.linear.specs.declared.Vector3f.{Vector3f}
 use Rattle.linear.specs.declared.Vector6f.{Vector6f}
 use Rattle.linear.specs.Vector.{zero_float}
-use Rattle.params.specs.Params.{vision_seed_samples, vision_clock_start_s}
+use Rattle.params.specs.declared.TheConstants.{VISION_SEED_SAMPLES, VISION_CLOCK_START_S}
 use Rattle.tick.specs.TickLength.{seconds_of}
 use Rattle.tick.specs.declared.start.Start.{Start}
 use Rattle.tick.specs.Start.{dt_of}
@@ -45,7 +45,7 @@ pub record Held (k m : ℕ) (v : Vision) : Type 0 where
 
 -- no sighting was taken since the start or the last reset
 abbrev pub Unheld : Vision → Type 0
-Unheld v = v.time_since_vision_update_s ≡ vision_clock_start_s
+Unheld v = v.time_since_vision_update_s ≡ VISION_CLOCK_START_S
 
 -- a tick that takes a sighting begins to hold it
 abbrev pub TakenIsHeld : Type 0
@@ -148,7 +148,7 @@ FirstRefusal =
 -- a seeding gathers below the 20th sighting, and from it on completes or seeds anew
 abbrev pub Seeded : Seeding → Type 0
 Seeded s =
-    ((s.n < vision_seed_samples) × (seeding_judged s ≡ record { action = Accumulate; gate = Gate.Seeding s }))
+    ((s.n < VISION_SEED_SAMPLES) × (seeding_judged s ≡ record { action = Accumulate; gate = Gate.Seeding s }))
     ⊎ ((seeding_judged s ≡ record { action = SeedComplete; gate = Gate.Tracking zero_float })
     ⊎ (seeding_judged s ≡ record { action = SeedReset; gate = Gate.Seeding fresh_seeding }))
 
@@ -159,7 +159,7 @@ SeedingIsSeeded = (s : Seeding) → Seeded s
 abbrev pub NanDeviationSeedsAnew : Type 0
 NanDeviationSeedsAnew =
     (s : Seeding)
-    → vision_seed_samples ≤ s.n
+    → VISION_SEED_SAMPLES ≤ s.n
     → (deviation_x s ≡ nan) ⊎ (deviation_y s ≡ nan)
     → seeding_judged s ≡ record { action = SeedReset; gate = Gate.Seeding fresh_seeding }
 

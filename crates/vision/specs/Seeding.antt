@@ -6,7 +6,7 @@ use Rattle.ieee754.specs.Root.{square_root}
 use Rattle.linear.specs.declared.Vector2f.{Vector2f}
 use Rattle.linear.specs.declared.Vector3f.{Vector3f}
 use Rattle.linear.specs.Vector.{zeros2}
-use Rattle.params.specs.Params.{vision_seed_samples, vision_seed_pos_std_thresh_m}
+use Rattle.params.specs.declared.TheConstants.{VISION_SEED_SAMPLES, VISION_SEED_POS_STD_THRESH_M}
 
 -- how many sightings, the sums of their places, and of the squares
 pub record Seeding : Type 0 where
@@ -43,8 +43,8 @@ deviation_y s = deviation s.pos_sum.y s.pos_sq_sum.y (of_int binary32 (pos s.n))
 
 -- both deviations are strictly below 0.03 m; a NaN is below nothing
 abbrev pub steady : Seeding → Bool
-steady s = lt (deviation_x s) vision_seed_pos_std_thresh_m && lt (deviation_y s) vision_seed_pos_std_thresh_m
+steady s = lt (deviation_x s) VISION_SEED_POS_STD_THRESH_M && lt (deviation_y s) VISION_SEED_POS_STD_THRESH_M
 
 -- the seeding that stays after it has gathered: at the 20th sighting a fresh one
 abbrev pub kept_seeding : Seeding → Seeding
-kept_seeding s = if nat_lt s.n vision_seed_samples then s else fresh_seeding
+kept_seeding s = if nat_lt s.n VISION_SEED_SAMPLES then s else fresh_seeding

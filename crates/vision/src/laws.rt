@@ -1,4 +1,4 @@
-// What is proved of the gate and of the vision clock over ticks: functions that do nothing, for their clauses.
+//! What is proved of the gate and of the vision clock over ticks: functions that do nothing, for their clauses.
 
 ghost use Rattle.vision.specs.Laws.{SumIsExact, SumIsBeyond, TakenIsHeld, HeldWaits, NewIsUnheld, UnheldWaits};
 ghost use Rattle.vision.specs.Laws.{HeldIsActive, UnheldIsInactive, RadiusWidens, WideningTakes, HeldTakes};

@@ -16,6 +16,7 @@ use params::{VISION_ACTIVE_TIMEOUT_S, VISION_CLOCK_START_S};
 use tick::action::GateAction;
 use tick::start::Start;
 
+/// The gate and the vision clock together.
 #[derive(Clone, Copy)]
 pub struct Vision {
     pub gate: VisionGateState,

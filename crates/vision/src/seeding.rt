@@ -1,7 +1,7 @@
 //! A seeding: sightings gathered until their places are known to be steady (docs/RULES.md, 'Seeding').
 
 ghost use Rattle.std.specs.Prelude.{◌≡◌, ◌<◌};
-ghost use Rattle.params.specs.Params.{vision_seed_samples};
+ghost use Rattle.params.specs.declared.TheConstants.{VISION_SEED_SAMPLES};
 ghost use Rattle.vision.specs.Gate.{seeding_judged};
 ghost use Rattle.vision.specs.Seeding.{fresh_seeding, gathered, deviation, steady, kept_seeding};
 
@@ -22,14 +22,14 @@ pub struct Seeding {
 
 impl Model for Seeding {
     ghost use Rattle.std.specs.Prelude.{◌<◌};
-    ghost use Rattle.params.specs.Params.{vision_seed_samples};
+    ghost use Rattle.params.specs.declared.TheConstants.{VISION_SEED_SAMPLES};
     ghost use Rattle.vision.specs.Seeding.{Seeding};
 
     ghost Value = { Seeding };
 
     ghost view = { λ s. record { n = s.n; pos_sum = s.pos_sum; pos_sq_sum = s.pos_sq_sum } };
 
-    ghost invariant = { λ s. s.n < vision_seed_samples };
+    ghost invariant = { λ s. s.n < VISION_SEED_SAMPLES };
 
     ghost inverse = { λ v. record { n = v.n; pos_sum = v.pos_sum; pos_sq_sum = v.pos_sq_sum } };
 }
@@ -57,7 +57,7 @@ impl Seeding {
 
     /// How many sightings.
     pub fn n(&self) -> u32
-        ensures { (result ≡ self.now.n) × (result < vision_seed_samples) }
+        ensures { (result ≡ self.now.n) × (result < VISION_SEED_SAMPLES) }
     {
         self.n
     }

@@ -1,4 +1,4 @@
--- What is filled is what the reader lost, and each read but the last fills more. Assumes nothing.
+-- What is filled is what the reader lost, and each read but the last fills more.
 use Rattle.std.proofs.Common.{◌≡◌, ◌-◌, ◌≤◌, length, take}
 use Rattle.std.specs.Io.KnownBytes.{Consumes}
 use Rattle.full_read.proofs.read_full.Given as goal

@@ -1,4 +1,4 @@
--- What the two rotations have to do with each other, and that their zeros count. Assumes nothing.
+-- What the two rotations have to do with each other, and that their zeros count.
 use mathlib.Core.Path.{◌≡◌, refl}
 use mathlib.Core.Bool.{Bool, true, false}
 use mathlib.Core.List.{[], ◌∷◌}

@@ -1,4 +1,4 @@
--- r is the rest after so many doublings. Assumes nothing.
+-- r is the rest after so many doublings.
 use Rattle.std.proofs.Common.{◌≡◌, ◌*◌, ◌%◌, ◌^◌, ◌<◌, ◌≤◌}
 use Rattle.ieee754.proofs.remainder.doubled_rest.Given as goal
 

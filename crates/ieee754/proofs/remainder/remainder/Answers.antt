@@ -1,4 +1,4 @@
--- r = x % (2.0 * PI) is exact, and beyond PI, which is half of 2.0 * PI, it takes one more multiple. Assumes nothing.
+-- r = x % (2.0 * PI) is exact, and beyond PI, which is half of 2.0 * PI, it takes one more multiple.
 use mathlib.Core.Path.{refl}
 use mathlib.Core.Bool.{true, false}
 use denote.Floats.{passes}

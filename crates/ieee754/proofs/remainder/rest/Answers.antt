@@ -1,4 +1,4 @@
--- Each kind of word has its rest. Assumes nothing.
+-- Each kind of word has its rest.
 use denote.Floats.{passes}
 use Rattle.ieee754.proofs.Beyond.{rest_below_four, no_rest_beyond, positive_rest, negative_rest}
 use Rattle.ieee754.proofs.remainder.rest.Goals as goal
