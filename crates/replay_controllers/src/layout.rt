@@ -1,4 +1,4 @@
-// How a list is laid out: the number of runs; each run a header and calls.
+//! How a list is laid out: the number of runs; each run a header and calls.
 ghost use Rattle.std.specs.Prelude.{◌≤◌};
 
 #[derive(Clone, Copy)]

@@ -24,15 +24,13 @@ fn controller_for(pass: &Option<BodyController>, block: &[u8]) -> Result<BodyCon
     Ok(c)
 }
 
+// The tick of a block that is not refused, with the words of its calls.
 fn run_tick(
     pass: &Option<BodyController>,
     block: &[u8],
     words: &mut [u32; 96],
 ) -> Result<BodyController, Refusal> {
-    match controller_for(pass, block) {
-        Ok(c) => sight(c, block, words),
-        Err(refusal) => Err(refusal),
-    }
+    sight(controller_for(pass, block)?, block, words)
 }
 
 // A refused block has the number that its tick would have had, and the state that a reset call then gives. It ends its
