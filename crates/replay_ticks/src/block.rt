@@ -30,7 +30,11 @@ fn run_tick(
     block: &[u8],
     words: &mut [u32; 96],
 ) -> Result<BodyController, Refusal> {
-    sight(controller_for(pass, block)?, block, words)
+    // By `?` the checker finds no proof.
+    match controller_for(pass, block) {
+        Ok(c) => sight(c, block, words),
+        Err(refusal) => Err(refusal),
+    }
 }
 
 // A refused block has the number that its tick would have had, and the state that a reset call then gives. It ends its
