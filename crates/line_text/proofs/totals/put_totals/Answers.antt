@@ -1,10 +1,8 @@
 -- Each number behind the one before.
 use Rattle.line_text.proofs.Putting.{and_then}
-use Rattle.line_text.specs.Totals.{totals_text}
 use Rattle.line_text.proofs.totals.put_totals.Goals as goal
 
 pub returns-clause-puts : goal.returns-clause-puts
-unfolding totals_text
 returns-clause-puts c =
     let quiet = and_then c.put_decimal-at.ensures.puts c.put_number-at.ensures.puts in
     let gathered = and_then quiet c.put_number-at-2.ensures.puts in
