@@ -2,10 +2,10 @@
 """Writes what program `cases` reads: passes, one behind the other, each ended by a refused block; and what
 `bit_cases` reads: a block, of which it turns each bit.
 
-  python3 tools/case_blocks.py > crates/cases/stdin
-  python3 tools/case_blocks.py --split DIR     each pass in a file of its own, for the oracle's `ticks`
-  python3 tools/case_blocks.py --block > crates/bit_cases/stdin
-  python3 tools/case_blocks.py --answers > crates/bit_cases/stdout
+  tools/case_blocks.py > crates/cases/stdin
+  tools/case_blocks.py --split DIR     each pass in a file of its own, for the oracle's `ticks`
+  tools/case_blocks.py --block > crates/bit_cases/stdin
+  tools/case_blocks.py --answers > crates/bit_cases/stdout
 
 crates/cases/stdout is what `ticks` prints for each pass, then the two lines of the tick limit. The passes:
 the worked block, each refusal alone, every two at once in the order of trial, every spare word and

@@ -1,8 +1,13 @@
-"""Writes crates/ieee754/src/table.rt: python3 tools/root_table.py > crates/ieee754/src/table.rt && rt fmt
+#!/usr/bin/env python3
+"""Writes crates/ieee754/src/table.rt, which `rt fmt` then lays out.
 
-For each last digit of an exponent's field and each interval of 2^18 significands from 2^23 to 2^24, a cubic near the root of
-m * 2^23 or, where the digit is 0, m * 2^24, by the distance d of m from the interval's start, in whole numbers. Each
-coefficient is the leading one of the polynomial through as many points as it takes, of what the rounded ones above it leave."""
+  tools/root_table.py > crates/ieee754/src/table.rt
+
+For each last digit of an exponent's field and each interval of 2^18 significands from 2^23 to 2^24, a cubic near
+the root of m * 2^23 or, where the digit is 0, m * 2^24, by the distance d of m from the interval's start, in whole
+numbers. Each coefficient is the leading one of the polynomial through as many points as it takes, of what the
+rounded ones above it leave.
+"""
 import math
 from decimal import Decimal, getcontext
 

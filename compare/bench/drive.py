@@ -5,10 +5,10 @@
 
 - the ratio: 400,000 blocks, firmware and drive by turns, the best of ROUNDS (15) each;
 - growth: drive's time for a tick at 10^4, 10^5 and 10^6 ticks;
-- drive's instructions for a tick, where valgrind is there;
 - where drive's time goes, by two variants of it that are built without proof: one puts a byte for
   each tick in the place of its line (what is saved is the text), one leaves the four calls out and
-  prints the block's own wheels (what is saved is the tick); the rest is reading and check.
+  prints the block's own wheels (what is saved is the tick); the rest is reading and check;
+- drive's instructions for a tick, and where those of the variants go, where valgrind is there.
 """
 import os, re, shutil, subprocess, sys, tempfile, time
 from pathlib import Path
@@ -93,6 +93,13 @@ def instructions(command, blocks):
     return int(re.search(r"Collected : (\d+)", run.stderr).group(1))
 
 
+def split(times):
+    """Where the time goes, of the whole, without text and without tick."""
+    whole, no_text, no_tick = times
+    text, tick = whole - no_text, whole - no_tick
+    return f"{whole:.0f}; reading and check {whole - text - tick:.0f}, tick {tick:.0f}, text {text:.0f}"
+
+
 def variant(kit, room, name, edit):
     crates = room / "crates"
     shutil.rmtree(crates, ignore_errors=True)
@@ -136,13 +143,12 @@ def main():
         for count in (10**4, 10**5, 10**6):
             ((clock, cpu),) = best([drive], room / str(count), rounds)
             print(f"{count} ticks: {clock * 1e9 / count:.0f} ns for a tick by the clock, {cpu * 1e9 / count:.0f} of processor")
-        if shutil.which("valgrind"):
-            print(f"{instructions(drive, room / str(10**4)) / 10**4:.0f} instructions for a tick, over 10000 ticks (callgrind)")
-
         variants = [variant(kit, room, *v) for v in (("whole", None), ("no_text", NO_TEXT), ("no_tick", NO_TICK))]
-        whole, no_text, no_tick = (cpu * 1e9 / TICKS for _, cpu in best(variants, blocks, rounds))
-        text, tick = whole - no_text, whole - no_tick
-        print(f"ns of processor for a tick: {whole:.0f}; reading and check {whole - text - tick:.0f}, tick {tick:.0f}, text {text:.0f}")
+        print("ns of processor for a tick: " + split([cpu * 1e9 / TICKS for _, cpu in best(variants, blocks, rounds)]))
+        if shutil.which("valgrind"):
+            count = 10**4
+            whole, *parts = (instructions(it, room / str(count)) / count for it in (drive, *variants))
+            print(f"instructions for a tick, over {count} ticks (callgrind): {whole:.0f}; of the variants: " + split(parts))
     finally:
         shutil.rmtree(room)
 

@@ -8,8 +8,8 @@ use Rattle.tick.specs.declared.action.GateAction.TheVariants.{NoVision, Accept}
 use Rattle.tick.specs.declared.refusal.Refusal.TheVariants as Why
 use Rattle.line_text.specs.declared.line.Line.TheVariants.{Tick, Refused}
 use Rattle.line_text.specs.Pieces.{decimal_in, decimal}
-use Rattle.line_text.specs.Wheels.{hex, wheels_text}
-use Rattle.line_text.specs.Text.{failed_text, ending_text, tick_text, refused_text, line_text}
+use Rattle.line_text.specs.Wheels.{hex}
+use Rattle.line_text.specs.Text.{line_text}
 
 -- `0 Q - N 00000000 00000000 00000000 00000000`
 first_line : line_text (Tick (record { number = 0; action = NoVision; active = false; recovering = false; ending = Ok (record { x = of_bits binary32 0; y = of_bits binary32 0; z = of_bits binary32 0; w = of_bits binary32 0 }) }))
@@ -18,17 +18,17 @@ first_line : line_text (Tick (record { number = 0; action = NoVision; active = f
     ∷ 32 ∷ 48 ∷ 48 ∷ 48 ∷ 48 ∷ 48 ∷ 48 ∷ 48 ∷ 48
     ∷ 32 ∷ 48 ∷ 48 ∷ 48 ∷ 48 ∷ 48 ∷ 48 ∷ 48 ∷ 48
     ∷ 32 ∷ 48 ∷ 48 ∷ 48 ∷ 48 ∷ 48 ∷ 48 ∷ 48 ∷ 48 ∷ 10 ∷ []
-unfolding decimal_in decimal hex wheels_text ending_text tick_text line_text to_bits of_bits
+unfolding decimal_in decimal hex to_bits of_bits
 first_line = refl
 
 -- `1207 T V B E11`
 failed_line : line_text (Tick (record { number = 1207; action = Accept; active = true; recovering = true; ending = Err Why.EstimatorFailed }))
     ≡ 49 ∷ 50 ∷ 48 ∷ 55 ∷ 32 ∷ 84 ∷ 32 ∷ 86 ∷ 32 ∷ 66 ∷ 32 ∷ 69 ∷ 49 ∷ 49 ∷ 10 ∷ []
-unfolding decimal_in decimal failed_text ending_text tick_text line_text
+unfolding decimal_in decimal
 failed_line = refl
 
 -- `16777216 ! 3`
 refused_line : line_text (Refused (record { number = 16777216; refusal = Why.TickLimit }))
     ≡ 49 ∷ 54 ∷ 55 ∷ 55 ∷ 55 ∷ 50 ∷ 49 ∷ 54 ∷ 32 ∷ 33 ∷ 32 ∷ 51 ∷ 10 ∷ []
-unfolding decimal_in decimal refused_text line_text
+unfolding decimal_in decimal
 refused_line = refl

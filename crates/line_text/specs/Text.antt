@@ -18,16 +18,16 @@ marks_text action active recovering =
     field (letter_of action ∷ []) ++ field ((if active then 86 else 45) ∷ []) ++ field ((if recovering then 66 else 78) ∷ [])
 
 -- in the place of the wheel speeds `E` and the refusal
-unfoldable pub failed_text : Refusal → List ℕ
+abbrev pub failed_text : Refusal → List ℕ
 failed_text refusal = field (69 ∷ []) ++ decimal (refusal_number refusal)
 
 -- what ends a tick's line
-unfoldable pub ending_text : Result Vector4f Refusal → List ℕ
+abbrev pub ending_text : Result Vector4f Refusal → List ℕ
 ending_text (Ok wheels) = wheels_text wheels
 ending_text (Err refusal) = failed_text refusal
 
 -- per tick: number, letter, `V` or `-`, `B` or `N`, and the ending
-unfoldable pub tick_text : TickLine → List ℕ
+abbrev pub tick_text : TickLine → List ℕ
 tick_text t =
     decimal t.number
     ++ marks_text t.action t.active t.recovering
@@ -35,10 +35,10 @@ tick_text t =
     ++ newline
 
 -- a refused block: the number its tick would have had, `!`, the refusal
-unfoldable pub refused_text : RefusedLine → List ℕ
+abbrev pub refused_text : RefusedLine → List ℕ
 refused_text r = decimal r.number ++ field (33 ∷ []) ++ field (decimal (refusal_number r.refusal)) ++ newline
 
 -- a tick's line, or a refused block's
-unfoldable pub line_text : Line → List ℕ
+abbrev pub line_text : Line → List ℕ
 line_text (Tick t) = tick_text t
 line_text (Refused r) = refused_text r

@@ -4,7 +4,7 @@ use Rattle.tick.specs.declared.tally.Totals.{Totals}
 use Rattle.line_text.specs.Pieces.{decimal, field, newline}
 
 -- last, always: ticks, then counts in the order Q to R
-unfoldable pub totals_text : Totals → List ℕ
+abbrev pub totals_text : Totals → List ℕ
 totals_text t =
     decimal t.ticks
     ++ field (decimal t.counts.quiet)

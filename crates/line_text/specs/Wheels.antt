@@ -19,5 +19,5 @@ unfoldable pub hex : Float → List ℕ
 hex x = hex_digits 8 (to_bits binary32 x)
 
 -- four wheel speeds
-unfoldable pub wheels_text : Vector4f → List ℕ
+abbrev pub wheels_text : Vector4f → List ℕ
 wheels_text v = field (hex v.x) ++ field (hex v.y) ++ field (hex v.z) ++ field (hex v.w)

@@ -3,5 +3,5 @@
 #![tactic(auto)]
 
 pub mod line; // line.rt: the line of a tick, or of a refused block
-pub mod pieces; // pieces.rt: what a line is made of
+mod pieces; // pieces.rt: what a line is made of
 pub mod totals; // totals.rt: the last line

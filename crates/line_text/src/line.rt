@@ -46,7 +46,6 @@ pub fn write_line(line: Line, out: &mut [u8; LINE]) -> usize
     put_line(line, out)
 }
 
-#[tactic(auto, unfolding(crate::specs::Text::line_text))]
 fn put_line(line: Line, out: &mut [u8; LINE]) -> usize
     ensures puts { Puts out.old 0 (line_text line) out.new result }
     ensures upper_bound { result ≤ 128 }
@@ -87,7 +86,6 @@ fn marks(action: GateAction, active: bool, recovering: bool) -> [u8; 6]
 }
 
 // The wheel speeds, or `E` and the refusal that ended the tick.
-#[tactic(auto, unfolding(crate::specs::Text::ending_text, crate::specs::Text::failed_text))]
 fn put_ending(out: &mut [u8; LINE], at: usize, ending: Result<Vector4f, Refusal>) -> usize
     requires { at + 36 ≤ 128 }
     ensures puts { Puts out.old at (ending_text ending) out.new result }

@@ -218,7 +218,7 @@ stands_on : (p : Pass) (q : PlainPass) → Beside p q → StandsOn p q
 stands_on Empty none m = tt
 stands_on Empty (at start calls) m = absurd m
 stands_on (Driving c) none m = absurd m
-stands_on (Driving c) (at start calls) m = (m.entries, m.are, follows_plain_drive start m.entries c m.valid m.made)
+stands_on (Driving c) (at start calls) m = (m.entries, m.valid, m.are, m.made, follows_plain_drive start m.entries c m.valid m.made)
 
 pub every_pass : EveryPass
 every_pass blocks lines q m =

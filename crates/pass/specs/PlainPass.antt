@@ -6,12 +6,13 @@ use Rattle.tick.specs.declared.inputs.TickInput.{TickInput}
 use Rattle.tick.specs.declared.refusal.Refusal.{Refusal}
 use Rattle.tick.specs.declared.start.Start.{Start}
 use Rattle.tick.specs.Refusal.{refusal_number, number_of}
+use Rattle.tick.specs.Start.{IsStart}
 use Rattle.tick.specs.Tally.{count_list}
 use Rattle.vision.specs.Vision.{active}
 use Rattle.control_context.specs.Divergence.{is_recovering}
 use Rattle.plain_drive.specs.Calls.{Call, sight, plan, steer, finish, Reply, outcome, answer, accepted, refused}
 use Rattle.plain_drive.specs.PlainDrive as Plain
-use Rattle.plain_drive.specs.EveryList.{Entry, calls_of, Holds}
+use Rattle.plain_drive.specs.EveryList.{Entry, calls_of, Made, Holds}
 use Rattle.line_text.specs.declared.line.Line.{Line}
 use Rattle.line_text.specs.declared.line.Line.TheVariants as Lines
 use Rattle.tick_block.specs.declared.TickBlock.{TickBlock}
@@ -141,12 +142,12 @@ unfoldable pub marks_of : List Line → List Mark
 marks_of [] = []
 marks_of (line ∷ lines) = mark_of line ∷ marks_of lines
 
--- the controller of a pass stands behind a list of calls, those of the blocks, and what holds after every list of calls holds of it
+-- the controller of a pass was made by a list of calls, those of the blocks, and what holds after every list of calls holds of it
 abbrev pub StandsOn : Pass → PlainPass → Type 0
 StandsOn Empty none = Unit {0}
 StandsOn Empty (at start calls) = ⊥
 StandsOn (Driving c) none = ⊥
-StandsOn (Driving c) (at start calls) = (h : List Entry) × (calls_of h ≡ calls) × Holds start h c
+StandsOn (Driving c) (at start calls) = (h : List Entry) × IsStart start × (calls_of h ≡ calls) × Made start h c × Holds start h c
 
 pub record PassHolds (blocks : List (List ℕ)) (lines : List Line) (q : Pass) : Type 0 where
   -- numbers, outcomes, V and B, and refusals of the lines are the plain drive's

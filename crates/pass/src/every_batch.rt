@@ -1,4 +1,4 @@
-// The theorems on batches: no code, the clauses are what counts.
+//! The theorems on batches: no code, the clauses are what counts.
 
 ghost use Rattle.pass.specs.BatchHolds.{BatchHolds};
 ghost use Rattle.pass.specs.BatchLaws.{RoomIsEnough, BatchesJoin, TextsJoin, NoByteLost};

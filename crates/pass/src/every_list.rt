@@ -1,4 +1,4 @@
-// The pass theorem: no code, the clause is what counts.
+//! The pass theorem: no code, the clause is what counts.
 
 ghost use Rattle.pass.specs.PlainPass.{EveryPass};
 

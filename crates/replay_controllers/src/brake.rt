@@ -1,4 +1,4 @@
-// The list of the active brake.
+//! The list of the active brake.
 ghost use Rattle.std.specs.Prelude.{◌≡◌};
 ghost use Rattle.replay_controllers.specs.Brake.{answer, stepped};
 

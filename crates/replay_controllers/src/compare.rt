@@ -1,4 +1,4 @@
-// The words of an answer against the words wanted.
+//! The words of an answer against the words wanted.
 ghost use Rattle.std.specs.Prelude.{◌≡◌};
 ghost use Rattle.replay_controllers.specs.Compare.{agrees_up_to};
 

@@ -1,4 +1,4 @@
-// A record, as it is read.
+//! A record, as it is read.
 ghost use Rattle.std.specs.Prelude.{◌≤◌};
 
 use full_read::read_full;

@@ -1,4 +1,4 @@
-// The list of the encoder lag.
+//! The list of the encoder lag.
 ghost use Rattle.std.specs.Prelude.{◌≡◌};
 ghost use Rattle.replay_controllers.specs.Lag.{is_wanted, lag_at, answer, stepped};
 

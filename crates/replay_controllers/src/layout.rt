@@ -1,4 +1,4 @@
-// How a list is laid out: the number of runs; each run a header and calls. compare/FORMATS.md lists the words.
+//! How a list is laid out: the number of runs; each run a header and calls. compare/FORMATS.md lists the words.
 ghost use Rattle.std.specs.Prelude.{◌≤◌};
 
 #[derive(Clone, Copy)]

@@ -59,10 +59,7 @@ fn run_call(
     let Some(call) = read_record(rt, layout.call)? else {
         return Ok(cut_short(tally));
     };
-    let answer = match subject {
-        Some(subject) => Some(subject.step(&call)),
-        None => None,
-    };
+    let answer = subject.as_mut().map(|subject| subject.step(&call));
     judge(rt, tally, is_right(layout, answer, &call))
 }
 

@@ -1,4 +1,4 @@
-// The lists of the PID controllers of one, three and four axes.
+//! The lists of the PID controllers of one, three and four axes.
 ghost use Rattle.std.specs.Prelude.{◌≡◌, ◌<◌, ◌≤◌};
 ghost use Rattle.replay_controllers.specs.Pids.{gains_at, thresh_at, limits_at, settings_at, pid_of, answer, stepped};
 

@@ -1,4 +1,4 @@
-// What a run drives.
+//! What a run drives.
 ghost use Rattle.std.specs.Prelude.{◌≡◌};
 ghost use Rattle.replay_controllers.specs.Subject.{subject_of, stepped};
 
@@ -29,14 +29,10 @@ impl Subject {
             ListOf::Pid1 => Some(Subject::Pid1(Pid::of(header))),
             ListOf::Pid3 => Some(Subject::Pid3(Pid::of(header))),
             ListOf::Pid4 => Some(Subject::Pid4(Pid::of(header))),
-            ListOf::Brake => match ActiveBrakeController::new(word_at(header, 0)) {
-                Ok(brake) => Some(Subject::Brake(brake)),
-                Err(_) => None,
-            },
-            ListOf::Lag => match lag_at(header) {
-                Some(lag) => Some(Subject::Lag(lag)),
-                None => None,
-            },
+            ListOf::Brake => ActiveBrakeController::new(word_at(header, 0))
+                .ok()
+                .map(Subject::Brake),
+            ListOf::Lag => lag_at(header).map(Subject::Lag),
         }
     }
 

@@ -1,4 +1,4 @@
-// The words that an answer is compared by.
+//! The words that an answer is compared by.
 ghost use Rattle.std.specs.Prelude.{◌≡◌, ◌+◌, ◌<◌, ◌≤◌};
 ghost use Rattle.replay_controllers.specs.Words.{axis_put, axes_put, words_of};
 

@@ -24,11 +24,13 @@ fn controller_for(pass: &Option<BodyController>, block: &[u8]) -> Result<BodyCon
     Ok(c)
 }
 
+// The tick of a block that is not refused, with the words of its calls.
 fn run_tick(
     pass: &Option<BodyController>,
     block: &[u8],
     words: &mut [u32; 96],
 ) -> Result<BodyController, Refusal> {
+    // By `?` the checker finds no proof.
     match controller_for(pass, block) {
         Ok(c) => sight(c, block, words),
         Err(refusal) => Err(refusal),

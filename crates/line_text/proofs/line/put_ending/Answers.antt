@@ -1,8 +1,6 @@
 -- The number behind its letter.
 use Rattle.line_text.proofs.Putting.{and_then}
-use Rattle.line_text.specs.Text.{ending_text, failed_text}
 use Rattle.line_text.proofs.line.put_ending.Goals as goal
 
 pub returns-in-Err-clause-puts : goal.returns-in-Err-clause-puts
-unfolding ending_text failed_text
 returns-in-Err-clause-puts c = rw (c.in-Err.is, ← c.number.ensures) (and_then c.put-at.ensures.puts c.put_decimal.ensures.puts)
