@@ -36,7 +36,7 @@ def cubic(i):
 
 
 def function(name, ensures, entries, comment):
-    print(f'\n{comment}\npub fn {name}(i: u32) -> u64\n    ensures {{ {ensures} }}\n{{\n    {REASON}\n    match i {{')
+    print(f'\n{comment}\npub(crate) fn {name}(i: u32) -> u64\n    ensures {{ {ensures} }}\n{{\n    {REASON}\n    match i {{')
     for i, entry in enumerate(entries):
         print(f'        {i if i < 63 else "_"} => 0x{entry:x},')
     print('    }\n}')

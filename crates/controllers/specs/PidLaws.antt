@@ -1,5 +1,5 @@
 -- What holds of pid.rs's controllers, of one axis and of any number: each statement is a clause of a function of src/pid_laws.rt.
-use Rattle.std.specs.Prelude.{◌≡◌, ℕ, ◌<◌, true, false, T, List, [], ◌∷◌, length, map, replicate, get_or, Float, Option, None, Some}
+use Rattle.std.specs.Prelude.{◌≡◌, ℕ, ◌<◌, true, false, T, List, [], ◌∷◌, length, map, replicate, slice_index_or, Float, Option, None, Some}
 use Rattle.std.specs.Float.{nan, binary32}
 use Rattle.std.specs.Float.Ieee.{mul, div, lt, le}
 use Rattle.ieee754.specs.Magnitude.{magnitude}
@@ -25,7 +25,7 @@ AxesAreApart =
     → Each (λ parts. i < length parts) calls
     → i < length cs
     → i < length ms
-    → get_or (after_calls calls cs ms) i other ≡ alone (map (λ parts. get_or parts i reset) calls) (get_or cs i settings) (get_or ms i other)
+    → slice_index_or (after_calls calls cs ms) i other ≡ alone (map (λ parts. slice_index_or parts i reset) calls) (slice_index_or cs i settings) (slice_index_or ms i other)
 
 -- ---- the integrated error
 

@@ -58,11 +58,11 @@ fn larger_first(p: f32, q: f32) -> (f32, f32)
 }
 
 /// The root of x * x + y * y without overflow in between, as C's hypotf.
-// The usual case, two finite numbers, comes first.
 #[tactic(auto, using(crate::proofs::Tested::finite_sides, crate::proofs::Tested::infinite_side, crate::proofs::Tested::nan_side))]
 pub fn hypot(x: f32, y: f32) -> f32
     ensures { result ≡ hypotenuse x y }
 {
+    // The usual case, two finite numbers, comes first.
     let p = abs(x);
     let q = abs(y);
     let infinity = 1.0 / 0.0;

@@ -93,11 +93,11 @@ fn subnormal_root(b: u32) -> f32
 }
 
 /// The square root, rounded once, as C's sqrtf.
-// The usual case, a normal float above zero, comes first.
 #[tactic(auto, using(crate::proofs::Words::equal_number, crate::proofs::Positive::nan_root, crate::proofs::Positive::normal_root, crate::proofs::Positive::zero_root, crate::proofs::Positive::small_root, crate::proofs::Positive::negative_made, crate::proofs::Positive::last_root))]
 pub fn sqrt(x: f32) -> f32
     ensures { result ≡ square_root binary32 x }
 {
+    // The usual case, a normal float above zero, comes first.
     if x != x {
         return x;
     }

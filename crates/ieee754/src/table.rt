@@ -6,7 +6,7 @@ ghost use Rattle.std.specs.Prelude.{◌%◌, ◌^◌, ◌≤◌, ◌<◌};
 
 // The root at the interval's start and a half, times 2^40. Its last 32 digits are the bend too: how
 // much less the root rises with each step from the start, times 2^57.
-pub fn value(i: u32) -> u64
+pub(crate) fn value(i: u32) -> u64
     ensures { 2 ^ 26 ≤ result % 2 ^ 32 }
 {
     // An array is copied at each use (80 ns a call); two statics were tried, and were slower.
@@ -80,7 +80,7 @@ pub fn value(i: u32) -> u64
 
 // How much the root rises with each step, times 2^40. Its last 8 digits are also how much less the
 // bend is with each step, times 2^57.
-pub fn slope(i: u32) -> u64
+pub(crate) fn slope(i: u32) -> u64
     ensures { result < 2 ^ 40 }
 {
     // An array is copied at each use (80 ns a call); two statics were tried, and were slower.

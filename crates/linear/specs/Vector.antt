@@ -1,5 +1,5 @@
 -- 0.0 and 1.0; zeros, sums, differences, multiples and dot products of vectors, every step rounded to binary32; and a vector from its entries, and they from it.
-use Rattle.std.specs.Prelude.{ℕ, List, [], ◌∷◌, get_or, Float}
+use Rattle.std.specs.Prelude.{ℕ, List, [], ◌∷◌, slice_index_or, Float}
 use Rattle.std.specs.Float.{binary32}
 use Rattle.std.specs.Float.Ieee.{add, sub, mul, of_bits}
 use Rattle.linear.specs.declared.Vector2f.{Vector2f}
@@ -53,7 +53,7 @@ abbrev pub entries4 : Vector4f → List Float
 entries4 v = v.x ∷ v.y ∷ v.z ∷ v.w ∷ []
 
 abbrev pub entry : List Float → ℕ → Float
-entry l i = get_or l i zero_float
+entry l i = slice_index_or l i zero_float
 
 -- the vector with these entries
 unfoldable pub vector2_of : List Float → Vector2f

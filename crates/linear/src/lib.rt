@@ -35,8 +35,9 @@ pub struct Vector6f {
     pub twist: Vector3f,
 }
 
-/// Two zeros.
 // Zeros are constants and no derived `Default`, which is a call: other constants are made of them.
+
+/// Two zeros.
 pub const ZEROS_2: Vector2f = Vector2f { x: 0.0, y: 0.0 };
 
 /// Three zeros.

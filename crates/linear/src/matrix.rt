@@ -22,10 +22,10 @@ pub type Matrix4x3 = Matrix<4, 3>;
 
 impl<const R: usize, const C: usize> Matrix<R, C> {
     /// The product with a column vector.
-    // By the index: `from_fn` takes twice as long, and nothing says what a zip over `iter_mut` has written.
     pub fn mul(self, v: [f32; C]) -> [f32; R]
         ensures { result ≡ product_of self.entry v.entry }
     {
+        // By the index: `from_fn` takes twice as long, and nothing says what a zip over `iter_mut` has written.
         let mut product = [0.0; R];
         for (i, x) in product.iter_mut().enumerate() {
             *x = dot(self.rows[i], v);

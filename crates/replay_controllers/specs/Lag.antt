@@ -1,5 +1,5 @@
 -- The list of the encoder lag: the numbers that a header wants, the answer to a call, and what is compared after it.
-use Rattle.std.specs.Prelude.{ℕ, Bool, if◌then◌else◌, ◌&&◌, List, [], ◌∷◌, ◌++◌, replicate, nat_eq, Option, Some, None, Result, Ok, Err}
+use Rattle.std.specs.Prelude.{ℕ, Bool, if◌then◌else◌, ◌&&◌, List, [], ◌∷◌, ◌++◌, replicate, ◌==◌, Option, Some, None, Result, Ok, Err}
 use Rattle.linear.specs.declared.Vector2f.{Vector2f}
 use Rattle.linear.specs.Vector.{zeros2, vector2_of}
 use Rattle.controllers.specs.declared.first_order_lag.FirstOrderLag.{FirstOrderLag}
@@ -16,7 +16,7 @@ use Rattle.replay_controllers.specs.Kinds.{by_kind3}
 -- whether a lag has the header's numbers
 unfoldable pub is_wanted : FirstOrderLag → List ℕ → Bool
 is_wanted l s =
-    (nat_eq l.n_steps (word_at s 2) && nat_eq (word l.dt) (word_at s 3)) && nat_eq (word l.t_min) (word_at s 4)
+    (l.n_steps == word_at s 2 && word l.dt == word_at s 3) && word l.t_min == word_at s 4
 
 -- a lag of other numbers than the header's is none
 abbrev pub lag_by : Result FirstOrderLag Refusal → List ℕ → Option FirstOrderLag

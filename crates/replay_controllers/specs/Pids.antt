@@ -1,5 +1,5 @@
 -- The lists of the PID controllers: what a header describes, and the answer to a call.
-use Rattle.std.specs.Prelude.{ℕ, ◌+◌, ◌*◌, if◌then◌else◌, List, map, replicate, nat_eq, Float, Option, None, Some}
+use Rattle.std.specs.Prelude.{ℕ, ◌+◌, ◌*◌, if◌then◌else◌, List, map, replicate, ◌==◌, Float, Option, None, Some}
 use Rattle.std.specs.List.{range_with_len}
 use Rattle.linear.specs.Vector.{zero_float}
 use Rattle.params.specs.declared.PidGains.{PidGains}
@@ -21,12 +21,12 @@ gains_at s i =
 unfoldable pub thresh_at : List ℕ → ℕ → ℕ → Option Float
 thresh_at s n i =
     let at = 1 + 5 * n in
-    if nat_eq (word_at s at) 1 then Some (float_at s (at + 1 + i)) else None
+    if word_at s at == 1 then Some (float_at s (at + 1 + i)) else None
 
 unfoldable pub limits_at : List ℕ → ℕ → ℕ → Option (Float × Float)
 limits_at s n i =
     let at = 2 + 6 * n in
-    if nat_eq (word_at s at) 1 then Some (float_at s (at + 1 + i), float_at s (at + 1 + n + i)) else None
+    if word_at s at == 1 then Some (float_at s (at + 1 + i), float_at s (at + 1 + n + i)) else None
 
 -- the settings of axis i of n
 unfoldable pub settings_at : List ℕ → ℕ → ℕ → PidSettings

@@ -5,6 +5,7 @@ ghost use Rattle.replay_floats.specs.Record.{record_at, records_of, is_mismatch}
 use crate::answer::{Operation, answer};
 use tick_block::words::word_at;
 
+/// An argument and the answer wanted, as words.
 #[derive(Clone, Copy)]
 pub struct Record {
     pub argument: u32,

@@ -1,12 +1,15 @@
 -- The words of a block of bytes.
-use Rattle.std.specs.Prelude.{ℕ, ◌+◌, ◌*◌, ◌/◌, if◌then◌else◌, List, nat_lt, length, get_or}
+use Rattle.std.specs.Prelude.{ℕ, ◌+◌, ◌*◌, ◌/◌, if◌then◌else◌, List, nat_lt, length, slice_index_or}
 use Rattle.std.specs.Int.{to_le_bytes, w32}
 use Rattle.std.specs.List.{splice}
 
 -- the 32 bits that start at a byte, lowest byte first
 abbrev pub word_from : List ℕ → ℕ → ℕ
 word_from s at =
-    get_or s at 0 + get_or s (at + 1) 0 * 0x100 + get_or s (at + 2) 0 * 0x1_0000 + get_or s (at + 3) 0 * 0x100_0000
+    slice_index_or s at 0
+    + slice_index_or s (at + 1) 0 * 0x100
+    + slice_index_or s (at + 2) 0 * 0x1_0000
+    + slice_index_or s (at + 3) 0 * 0x100_0000
 
 -- word i, and 0 past the last whole word
 unfoldable pub word_at : List ℕ → ℕ → ℕ

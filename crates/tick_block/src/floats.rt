@@ -23,10 +23,10 @@ fn float_after(block: &[u8], at: usize, i: usize) -> f32
 }
 
 /// The floats of the words from `at` on.
-// A loop: `from_fn` takes twice as long.
 pub fn floats_at<const N: usize>(block: &[u8], at: usize) -> [f32; N]
     ensures { result ≡ floats_at block.now at N }
 {
+    // A loop: `from_fn` takes twice as long.
     let mut floats = [0.0; N];
     for (i, x) in floats.iter_mut().enumerate() {
         *x = float_after(block, at, i);
