@@ -62,10 +62,10 @@ fn larger_first(p: f32, q: f32) -> (f32, f32)
 pub fn hypot(x: f32, y: f32) -> f32
     ensures { result ≡ hypotenuse x y }
 {
-    // The usual case, two finite numbers, comes first.
     let p = abs(x);
     let q = abs(y);
     let infinity = 1.0 / 0.0;
+    // The usual case, two finite numbers, comes first.
     if (p < infinity) & (q < infinity) {
         let (a, b) = larger_first(p, q);
         return hypot_of(a, b);

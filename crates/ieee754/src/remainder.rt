@@ -42,9 +42,8 @@ fn rest(x: f32) -> f32
 pub fn remainder(x: f32) -> f32
     ensures { result ≡ remainder_by binary32 x tau }
 {
-    // The rest has x's sign and is less than 2.0 * PI. What lies beyond PI is
-    // nearer to the next multiple; PI itself is reached only by x = PI and x = -PI, whose nearest even
-    // multiple is 0.
+    // The rest has x's sign and is less than 2.0 * PI. What lies beyond PI is nearer to the next
+    // multiple; PI itself is reached only by x = PI and x = -PI, whose nearest even multiple is 0.
     let r = rest(x);
     if r > 3.1415927 {
         return r - 6.2831855;

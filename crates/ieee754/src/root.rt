@@ -97,11 +97,11 @@ fn subnormal_root(b: u32) -> f32
 pub fn sqrt(x: f32) -> f32
     ensures { result ≡ square_root binary32 x }
 {
-    // The usual case, a normal float above zero, comes first.
     if x != x {
         return x;
     }
     let b = f32::to_bits(x);
+    // The usual case, a normal float above zero, before the others.
     if (0x80_0000 <= b) & (b < 0x7f80_0000) {
         let parts = Parts {
             m: b % 0x80_0000 + 0x80_0000,

@@ -1,7 +1,7 @@
 //! How a list is laid out: the number of runs; each run a header and calls. compare/FORMATS.md lists the words.
 ghost use Rattle.std.specs.Prelude.{◌≤◌};
 
-/// What the calls of a list are made of.
+/// Whose calls a list holds.
 #[derive(Clone, Copy)]
 pub enum ListOf {
     Pid1,
@@ -11,7 +11,7 @@ pub enum ListOf {
     Lag,
 }
 
-/// The sizes of a list and of its parts.
+/// How long a header and a call are, and where in them the numbers stand.
 #[derive(Clone, Copy)]
 pub struct Layout {
     // The bytes of a header and of a call.
