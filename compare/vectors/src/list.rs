@@ -97,7 +97,7 @@ impl List {
         }
         let folder = concat!(
             env!("CARGO_MANIFEST_DIR"),
-            "/../../crates/replay_floats/data"
+            "/../../crates/replay_lists/data"
         );
         std::fs::create_dir_all(folder).unwrap();
         std::fs::write(format!("{folder}/{}", self.name), bytes).unwrap();

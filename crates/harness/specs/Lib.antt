@@ -1,3 +1,0 @@
--- Definitions that the contracts of `harness` cite.
-pub mod Line
-pub mod Tally

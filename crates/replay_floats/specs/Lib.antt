@@ -1,3 +1,0 @@
--- Definitions that the contracts of `replay_floats` cite.
-pub mod Answer
-pub mod Record
