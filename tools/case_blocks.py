@@ -1,14 +1,14 @@
 #!/usr/bin/env python3
-"""Writes what program `cases` reads: passes, one behind the other, each ended by a refused block; and what
-`bit_cases` reads: a block, of which it turns each bit.
+"""Writes what program `cases` reads: passes, one behind the other, each ended by a refused block; and a block, of
+which it turns each bit.
 
   tools/case_blocks.py > crates/cases/stdin
   tools/case_blocks.py --split DIR     each pass in a file of its own, for the oracle's `ticks`
-  tools/case_blocks.py --block > crates/bit_cases/stdin
-  tools/case_blocks.py --answers > crates/bit_cases/stdout
+  tools/case_blocks.py --block > crates/cases/data/block
+  tools/case_blocks.py --answers       what is to be printed of that block's bits
 
-crates/cases/stdout is what `ticks` prints for each pass, then the two lines of the tick limit. The passes:
-the worked block, each refusal alone, every two at once in the order of trial, every spare word and
+crates/cases/stdout is what `ticks` prints for each pass, then these answers, then the two lines of the tick limit.
+The passes: the worked block, each refusal alone, every two at once in the order of trial, every spare word and
 flag, and the mistakes that lie close. The answers are worked out here from docs/RULES.md, 'The order of trial',
 apart from the port and from the oracle.
 """

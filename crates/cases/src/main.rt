@@ -1,9 +1,12 @@
 //! Program `cases`: cases that are not proved. Standard input has passes one behind the other, each ended by a refused
-//! block; the lines of each are printed, and its last line. Then the tick limit, in full.
+//! block; the lines of each are printed, and its last line. Then one block with each of its bits turned, and the tick
+//! limit, in full.
 #![tactic(auto)]
 
+mod bits; // bits.rt: a block with each of its bits turned, and at each length
 mod limit; // limit.rt: a pass of 16,777,217 blocks
 
+use bits::turn_bits;
 use full_read::read_full;
 use limit::drive_to_limit;
 use line_text::line::LINE;
@@ -57,5 +60,6 @@ fn drive_passes(rt: &HostRuntime) -> io::Result<()> {
 
 fn main(rt: HostRuntime) -> io::Result<()> {
     drive_passes(&rt)?;
+    turn_bits(&rt)?;
     drive_to_limit(&rt)
 }

@@ -4,3 +4,4 @@ pub mod PlainSteps
 pub mod Watched
 pub mod EveryList
 pub mod Starts
+pub mod WorkedValues

@@ -11,7 +11,6 @@ use Rattle.tick.specs.declared.start.Start.{Start}
 use Rattle.tick.specs.TickLength.{is_tick_length}
 use Rattle.tick.specs.Start.{IsStart}
 use Rattle.tick.proofs.TickLengthExact.{tick_length_bounds}
-use Rattle.body_controller.specs.declared.BodyController.{BodyController}
 use Rattle.body_controller.specs.Controller.{started}
 use Rattle.plain_drive.specs.EveryList.{OnlyStartedIsNew}
 

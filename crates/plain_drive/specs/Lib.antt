@@ -2,3 +2,4 @@
 pub mod Calls
 pub mod PlainDrive
 pub mod EveryList
+pub mod WorkedValues

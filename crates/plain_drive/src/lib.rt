@@ -1,4 +1,5 @@
-//! The plain drive, and what holds after every list of the controller's calls.
+//! The plain drive, and what holds after every list of the controller's calls; the worked values of the rules.
 #![tactic(auto)]
 
 pub mod every_list; // every_list.rt: the theorem, in a contract
+pub mod worked_values; // worked_values.rt: values of the rules, worked out

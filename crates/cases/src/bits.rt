@@ -1,11 +1,9 @@
-//! Program `bit_cases`: standard input has a block that an empty pass accepts. An empty pass is given
-//! the block with each of its bits turned, without and with a new check, and cut or lengthened to each
-//! length up to 1,024 bytes. Of each a glyph is printed.
-#![tactic(auto)]
-
+//! The block in data/, which an empty pass accepts. An empty pass is given it with each of its bits turned, without and
+//! with a new check, and cut or lengthened to each length up to 1,024 bytes. Of each a glyph is printed.
 use full_read::read_full;
 use line_text::line::Line;
 use pass::pass::Pass;
+use std::fs::File;
 use std::io;
 use tick_block::check::renew_check;
 use tick_block::layout::BLOCK_BYTES;
@@ -73,12 +71,22 @@ fn print_lengths(rt: &HostRuntime, bytes: &[u8; 1024]) -> io::Result<()> {
 }
 
 // The check's own bits are turned only without a new check.
-fn main(rt: HostRuntime) -> io::Result<()> {
-    let mut block = [0; BLOCK_BYTES];
-    read_full(&mut rt.stdin(), &mut block)?;
-    print_words(&rt, &block, 128, false)?;
-    print_words(&rt, &block, 127, true)?;
+fn print_all(rt: &HostRuntime, block: &[u8; BLOCK_BYTES]) -> io::Result<()> {
+    print_words(rt, block, 128, false)?;
+    print_words(rt, block, 127, true)?;
     let mut long = [0; 1024];
-    long[..BLOCK_BYTES].copy_from_slice(&block);
-    print_lengths(&rt, &long)
+    long[..BLOCK_BYTES].copy_from_slice(block);
+    print_lengths(rt, &long)
+}
+
+// Reads the block, and prints its glyphs.
+pub(crate) fn turn_bits(rt: &HostRuntime) -> io::Result<()> {
+    match File::open(rt, "block") {
+        Ok(mut file) => {
+            let mut block = [0; BLOCK_BYTES];
+            read_full(&mut file, &mut block)?;
+            print_all(rt, &block)
+        }
+        Err(_) => println!(rt; "block cannot be opened"),
+    }
 }

@@ -11,7 +11,7 @@ use Rattle.controllers.specs.EncoderLag.{lag_of}
 use Rattle.controllers.proofs.EncoderCases as Lag
 use Rattle.vision.proofs.Cases as Gate
 use Rattle.control_context.proofs.ClampedCases as Limits
-use Rattle.worked_values.specs.WorkedValues.{float, current_bits, NumberFor, WorkedValues}
+use Rattle.plain_drive.specs.WorkedValues.{float, current_bits, NumberFor, WorkedValues}
 
 -- the brake's four, of one test
 pub record Currents (k : ℕ) : Type 0 where

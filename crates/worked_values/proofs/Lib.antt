@@ -1,2 +1,0 @@
--- Laws and lemmas.
-pub mod WorkedValues

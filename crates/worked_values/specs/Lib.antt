@@ -1,2 +1,0 @@
--- Definitions that the contracts of `worked_values` cite.
-pub mod WorkedValues
