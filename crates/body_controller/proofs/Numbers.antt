@@ -59,6 +59,7 @@ command_numbered c i (Ok cmd) true e = go i.estimator_failed refl
 
 -- what plan gives at any turn
 pub plan_numbered : (c : BodyController) (i : PlanInput) → number_of (plan_of c i).answer ≡ plan_refusal c i
+unfolding plan_of
 plan_numbered c i = go (is_plan c.turn)
   where
     go : (b : Bool)

@@ -30,7 +30,7 @@ abbrev pub refused : {A : Type 0} → Refusal → BodyController → Called A
 refused r c = record { answer = Err r; controller = c }
 
 -- the reset call: a new controller around the estimate, with ticks and counts as they were
-abbrev pub reset_of : BodyController → BodyController
+unfoldable pub reset_of : BodyController → BodyController
 reset_of c = record (started c.context.start) {
   context = new_context c.context.start c.context.state_estimate;
   tally = c.tally;

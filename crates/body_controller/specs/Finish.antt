@@ -48,7 +48,7 @@ finished c s i =
     let f = finished_by s i c.context.wheels_disabled in
     record { answer = Ok f; controller = record c { turn = Turns.Sight; outputs = f.outputs } }
 
-abbrev pub finish_of : BodyController → FinishInput → Called Finished
+unfoldable pub finish_of : BodyController → FinishInput → Called Finished
 finish_of c i = option_map_or (λ s. finished c s i) (steered_at c.turn) (refused Why.OutOfTurn c)
 
 -- the refusal's number, 0 where the call is accepted

@@ -28,7 +28,7 @@ abbrev pub plan_with : Result ManeuverCommand Refusal → BodyController → Pla
 plan_with (Err r) c i = refused r c
 plan_with (Ok cmd) c i = if i.estimator_failed then refused Why.EstimatorFailed (record c { turn = Turns.Sight }) else planned c i cmd
 
-abbrev pub plan_of : BodyController → PlanInput → Called PlanAnswer
+unfoldable pub plan_of : BodyController → PlanInput → Called PlanAnswer
 plan_of c i = if is_plan c.turn then plan_with (command_from i.mode i.words) c i else refused Why.OutOfTurn c
 
 -- the refusal's number, 0 where the call is accepted

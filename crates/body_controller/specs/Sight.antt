@@ -49,7 +49,7 @@ sighted c i =
       controller = record c { context = s.context; turn = Turns.Plan; tally = counted c.tally s.action };
     }
 
-abbrev pub sight_of : BodyController → SightInput → Called Sighted
+unfoldable pub sight_of : BodyController → SightInput → Called Sighted
 sight_of c i =
     if not (is_sight c.turn) then refused Why.OutOfTurn c
     else if is_full c.tally then refused Why.TickLimit c

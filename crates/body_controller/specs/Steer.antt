@@ -44,7 +44,7 @@ planner_failed c = refused Why.PlannerFailed (record c { context = Context.plann
 abbrev pub fails_at : Planned → SteerInput → Bool
 fails_at p i = i.planner_failed && needs_plan p.answer
 
-abbrev pub steer_of : BodyController → SteerInput → Called Vector3f
+unfoldable pub steer_of : BodyController → SteerInput → Called Vector3f
 steer_of c i = option_map_or (λ p. if fails_at p i then planner_failed c else steered c p i) (planned_at c.turn) (refused Why.OutOfTurn c)
 
 -- the refusal's number, 0 where the call is accepted

@@ -55,6 +55,7 @@ fn finish_by(s: Steered, i: FinishInput, wheels_disabled: bool) -> Finished
     }
 }
 
+#[tactic(auto, unfolding(crate::specs::Finish::finish_of))]
 impl BodyController {
     fn put_out(&mut self, i: FinishInput) -> Result<Finished, Refusal>
         ensures answer { result ≡ (finish_of self.old i).answer }

@@ -79,6 +79,7 @@ impl BodyController {
     }
 
     /// `reset`, accepted at any turn. Ticks, counts and estimate stay.
+    #[tactic(auto, unfolding(crate::specs::Controller::reset_of))]
     pub fn reset(self) -> BodyController
         ensures { result ≡ reset_of self }
     {

@@ -10,6 +10,7 @@ use tick::command::ManeuverCommand;
 use tick::inputs::PlanInput;
 use tick::refusal::Refusal;
 
+#[tactic(auto, unfolding(crate::specs::Plan::plan_of))]
 impl BodyController {
     // An estimator failure closes the tick before plan sets anything.
     fn decide(&mut self, i: PlanInput) -> Result<PlanAnswer, Refusal>

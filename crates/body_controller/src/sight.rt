@@ -67,6 +67,7 @@ fn sight_answer(action: GateAction, i: SightInput) -> Sighted
     }
 }
 
+#[tactic(auto, unfolding(crate::specs::Sight::sight_of))]
 impl BodyController {
     fn see(&mut self, i: SightInput) -> Result<Sighted, Refusal>
         ensures answer { result ≡ (sight_of self.old i).answer }

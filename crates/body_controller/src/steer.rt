@@ -39,6 +39,7 @@ fn limit(asked: ManeuverSetpoints, stop: bool, heading: Rotation) -> Steered
     }
 }
 
+#[tactic(auto, unfolding(crate::specs::Steer::steer_of))]
 impl BodyController {
     // A planner failure drops the trajectory and closes the tick; it counts only where a new plan was needed.
     fn track(&mut self, i: SteerInput) -> Result<Vector3f, Refusal>

@@ -113,6 +113,7 @@ taking c i = takes (ContextSight.seen c.context (sighting_of i.vision_update i.v
 
 -- a sight call that is accepted answers the gate's outcome
 accepted-outcome : (c : BodyController) (i : SightInput) → is_tick (sight_reply (sight_of c i).answer) ≡ true → took (sight_reply (sight_of c i).answer) ≡ taking c i
+unfolding sight_of
 accepted-outcome c i = go (not (is_sight c.turn)) (not (ltb c.tally.ticks tick_limit))
   where
     go : (s t : Bool)

@@ -98,6 +98,7 @@ module _ (c : BodyController) (i : SightInput) where
   OnSight turn = Follows c (Plain.on_sight turn c.context.start (drive_of c) i) (sight_reply (sight_of c i).answer) (sight_of c i).controller
 
   pub sight_follows : Follows c (Plain.step c.context.start (drive_of c) (sight i)) (sight_reply (sight_of c i).answer) (sight_of c i).controller
+  unfolding sight_of
   sight_follows = go c.turn refl (ltb c.tally.ticks tick_limit) refl
     where
       go : (turn : Turn) → c.turn ≡ turn → (b : Bool) → ltb c.tally.ticks tick_limit ≡ b → OnSight (drive_of c).turn
@@ -140,6 +141,7 @@ module _ (c : BodyController) (i : PlanInput) where
   OnPlan turn = Follows c (Plain.on_plan turn (drive_of c) i) (plan_reply (plan_of c i).answer) (plan_of c i).controller
 
   pub plan_follows : (start : Start) → Follows c (Plain.step start (drive_of c) (plan i)) (plan_reply (plan_of c i).answer) (plan_of c i).controller
+  unfolding plan_of
   plan_follows start = go c.turn refl
     where
       go : (turn : Turn) → c.turn ≡ turn → OnPlan (drive_of c).turn
@@ -151,6 +153,7 @@ module _ (c : BodyController) (i : PlanInput) where
 -- ---- reset
 
 pub reset_follows : (c : BodyController) (start : Start) → Follows c (Plain.step start (drive_of c) reset) accepted (reset_of c)
+unfolding reset_of
 reset_follows c _ = record { reply = refl; state = refl; start = refl }
 
 -- ---- steer
@@ -216,6 +219,7 @@ module _ (c : BodyController) (i : SteerInput) where
   OnSteer turn = Follows c (Plain.on_steer turn (drive_of c) i) (steer_reply (Steer.steer_of c i).answer) (Steer.steer_of c i).controller
 
   pub steer_follows : (start : Start) → Follows c (Plain.step start (drive_of c) (steer i)) (steer_reply (Steer.steer_of c i).answer) (Steer.steer_of c i).controller
+  unfolding Steer.steer_of
   steer_follows start = go c.turn refl
     where
       go : (turn : Turn) → c.turn ≡ turn → OnSteer (drive_of c).turn
@@ -235,6 +239,7 @@ module _ (c : BodyController) (i : FinishInput) where
   OnFinish turn = Follows c (Plain.on_finish turn (drive_of c)) (finish_reply (finish_of c i).answer) (finish_of c i).controller
 
   pub finish_follows : (start : Start) → Follows c (Plain.step start (drive_of c) (finish i)) (finish_reply (finish_of c i).answer) (finish_of c i).controller
+  unfolding finish_of
   finish_follows start = go c.turn refl
     where
       go : (turn : Turn) → c.turn ≡ turn → OnFinish (drive_of c).turn

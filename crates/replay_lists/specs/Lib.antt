@@ -1,6 +1,4 @@
 -- Definitions that the contracts of `replay_lists` cite.
-pub mod Tally
-pub mod Line
 pub mod Answer
 pub mod Record
 pub mod Words

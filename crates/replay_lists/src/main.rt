@@ -2,8 +2,6 @@
 //! Prints a line for each list, and the first mismatches.
 #![tactic(auto)]
 
-mod tally; // tally.rt: what a list of stored answers has shown
-mod report; // report.rt: a list's line
 mod floats; // floats.rt: the lists of data/, of float operations
 mod layout; // layout.rt: how a list of standard input is laid out
 mod input; // input.rt: a record, as it is read

@@ -4,10 +4,10 @@
 use crate::compare::{agrees, show};
 use crate::input::read_record;
 use crate::layout::{Layout, ListOf, layout_of};
-use crate::report::write_line;
 use crate::subject::Subject;
-use crate::tally::Tally;
 use full_read::read_full;
+use harness::report::write_line;
+use harness::tally::Tally;
 use std::io;
 use tick_block::words::word_at;
 

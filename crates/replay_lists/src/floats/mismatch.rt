@@ -1,7 +1,7 @@
 //! What is printed of a mismatch.
 use crate::floats::answer::{Operation, answer};
 use crate::floats::record::Record;
-use crate::tally::Tally;
+use harness::tally::Tally;
 use std::io;
 
 // The argument, the answer to it and the answer wanted, in hex.

@@ -1,6 +1,6 @@
 -- What a list has shown.
 use Rattle.std.specs.Prelude.{ℕ, ◌+◌, ◌%◌, ◌^◌, false}
-use Rattle.replay_lists.specs.declared.tally.Tally.{Tally}
+use Rattle.harness.specs.declared.tally.Tally.{Tally}
 
 -- nothing read yet
 abbrev pub none_yet : Tally

@@ -1,6 +1,6 @@
 -- A list's line behind its name, as bytes in ASCII: how many records and mismatches, and whether its last record is cut short.
 use Rattle.std.specs.Prelude.{ℕ, Bool, if◌then◌else◌, List, [], ◌∷◌, ◌++◌, decimal}
-use Rattle.replay_lists.specs.declared.tally.Tally.{Tally}
+use Rattle.harness.specs.declared.tally.Tally.{Tally}
 
 -- ` `
 abbrev pub space : List ℕ

@@ -1,0 +1,3 @@
+-- Definitions that the contracts of `harness` cite.
+pub mod Line
+pub mod Tally
