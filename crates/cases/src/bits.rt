@@ -1,5 +1,5 @@
-//! The block in data/, which an empty pass accepts. An empty pass is given it with each of its bits turned, without and
-//! with a new check, and cut or lengthened to each length up to 1,024 bytes. Of each a glyph is printed.
+//! Variants of the block in data/, which an empty pass accepts: each of its bits turned, without and with a new check,
+//! and each length up to 1,024 bytes. An empty pass is given each, and a glyph is printed of it.
 use full_read::read_full;
 use line_text::line::Line;
 use pass::pass::Pass;
@@ -71,7 +71,7 @@ fn print_lengths(rt: &HostRuntime, bytes: &[u8; 1024]) -> io::Result<()> {
 }
 
 // The check's own bits are turned only without a new check.
-fn print_all(rt: &HostRuntime, block: &[u8; BLOCK_BYTES]) -> io::Result<()> {
+fn print_variants(rt: &HostRuntime, block: &[u8; BLOCK_BYTES]) -> io::Result<()> {
     print_words(rt, block, 128, false)?;
     print_words(rt, block, 127, true)?;
     let mut long = [0; 1024];
@@ -79,14 +79,9 @@ fn print_all(rt: &HostRuntime, block: &[u8; BLOCK_BYTES]) -> io::Result<()> {
     print_lengths(rt, &long)
 }
 
-// Reads the block, and prints its glyphs.
-pub(crate) fn turn_bits(rt: &HostRuntime) -> io::Result<()> {
-    match File::open(rt, "block") {
-        Ok(mut file) => {
-            let mut block = [0; BLOCK_BYTES];
-            read_full(&mut file, &mut block)?;
-            print_all(rt, &block)
-        }
-        Err(_) => println!(rt; "block cannot be opened"),
-    }
+// Reads the block, and prints the glyphs of its variants.
+pub(crate) fn drive_variants(rt: &HostRuntime) -> io::Result<()> {
+    let mut block = [0; BLOCK_BYTES];
+    read_full(&mut File::open(rt, "block")?, &mut block)?;
+    print_variants(rt, &block)
 }

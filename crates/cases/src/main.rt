@@ -1,12 +1,12 @@
 //! Program `cases`: cases that are not proved. Standard input has passes one behind the other, each ended by a refused
-//! block; the lines of each are printed, and its last line. Then one block with each of its bits turned, and the tick
-//! limit, in full.
+//! block; the lines of each are printed, and its last line. Then one block with each of its bits turned and of each
+//! length, and the tick limit, in full.
 #![tactic(auto)]
 
-mod bits; // bits.rt: a block with each of its bits turned, and at each length
+mod bits; // bits.rt: a block with each of its bits turned, and of each length
 mod limit; // limit.rt: a pass of 16,777,217 blocks
 
-use bits::turn_bits;
+use bits::drive_variants;
 use full_read::read_full;
 use limit::drive_to_limit;
 use line_text::line::LINE;
@@ -14,6 +14,7 @@ use pass::batch::{Written, drive_block};
 use pass::last::write_last;
 use pass::pass::Pass;
 use std::io;
+use tick_block::layout::BLOCK_BYTES;
 
 // More blocks than the input has.
 const TURNS: u32 = 100_000;
@@ -48,7 +49,7 @@ pub(crate) fn drive_next(
 fn drive_passes(rt: &HostRuntime) -> io::Result<()> {
     let mut pass = Pass::Empty;
     for _ in 0..TURNS {
-        let mut block = [0; 512];
+        let mut block = [0; BLOCK_BYTES];
         let n = read_full(&mut rt.stdin(), &mut block)?;
         if n == 0 {
             break;
@@ -60,6 +61,6 @@ fn drive_passes(rt: &HostRuntime) -> io::Result<()> {
 
 fn main(rt: HostRuntime) -> io::Result<()> {
     drive_passes(&rt)?;
-    turn_bits(&rt)?;
+    drive_variants(&rt)?;
     drive_to_limit(&rt)
 }

@@ -1,4 +1,4 @@
-//! What the programs over stored lists share: a list's tally and its line.
+//! A stored list's tally, and the line that its replay prints.
 #![tactic(auto)]
 
 pub mod report; // report.rt: the line

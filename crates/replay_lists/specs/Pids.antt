@@ -7,7 +7,7 @@ use Rattle.controllers.specs.declared.pid.PidSettings.{PidSettings}
 use Rattle.controllers.specs.PidAxes.{PidAnswer, new_memory, calculated, calculated_with_derivative}
 use Rattle.tick_block.specs.Words.{word_at}
 use Rattle.tick_block.specs.Floats.{float_at, floats_at}
-use Rattle.replay_lists.specs.declared.pids.Pid.{Pid}
+use Rattle.replay_lists.specs.declared.runs.pids.Pid.{Pid}
 use Rattle.replay_lists.specs.Words.{Told, words_of}
 use Rattle.replay_lists.specs.Kinds.{by_kind3}
 

@@ -3,10 +3,10 @@ use Rattle.std.specs.Prelude.{ℕ, List, Option, Some, option_map}
 use Rattle.std.specs.Result.{result_ok}
 use Rattle.controllers.specs.Brake.{brake_of}
 use Rattle.tick_block.specs.Words.{word_at}
-use Rattle.replay_lists.specs.declared.layout.ListOf.{ListOf}
-use Rattle.replay_lists.specs.declared.layout.ListOf.TheVariants as list
-use Rattle.replay_lists.specs.declared.subject.Subject.{Subject}
-use Rattle.replay_lists.specs.declared.subject.Subject.TheVariants.{Pid1, Pid3, Pid4, Brake, Lag}
+use Rattle.replay_lists.specs.declared.runs.layout.ListOf.{ListOf}
+use Rattle.replay_lists.specs.declared.runs.layout.ListOf.TheVariants as list
+use Rattle.replay_lists.specs.declared.runs.subject.Subject.{Subject}
+use Rattle.replay_lists.specs.declared.runs.subject.Subject.TheVariants.{Pid1, Pid3, Pid4, Brake, Lag}
 use Rattle.replay_lists.specs.Words.{Told}
 use Rattle.replay_lists.specs.Pids as pids
 use Rattle.replay_lists.specs.Brake as brake

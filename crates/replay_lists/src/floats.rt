@@ -1,5 +1,5 @@
-//! The lists of data/: roots and remainders against those of Rust's libm, words both ways (compare/vectors
-//! writes the lists). Prints a line for each list, and the first mismatches.
+//! The lists of data/: roots and remainders against those of Rust's libm, words both ways, sums and differences
+//! (compare/vectors writes the lists). Prints a line for each list, and the first mismatches.
 mod answer; // answer.rt: what is computed of an argument
 mod mismatch; // mismatch.rt: what is printed of a mismatch
 mod record; // record.rt: an argument with the answer wanted, and how many of a block disagree

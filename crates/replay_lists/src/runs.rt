@@ -1,10 +1,19 @@
-//! The lists of standard input, one behind the other: each holds runs of calls with the answers of the
-//! Rust itself, and what it remembers after each call. Answers are compared bit for bit; NaN has one
-//! word. Prints a line for each list, and which calls were the first mismatches.
-use crate::compare::{agrees, show};
-use crate::input::read_record;
-use crate::layout::{Layout, ListOf, layout_of};
-use crate::subject::Subject;
+//! The lists of standard input, one behind the other: each holds runs of calls with the answers of the Rust itself, and
+//! what it remembers after each call. Answers are compared bit for bit; NaN has one word. Prints a line for each list,
+//! and which calls were the first mismatches.
+mod brake; // brake.rt: the list of the active brake
+mod compare; // compare.rt: the words of an answer against those wanted
+mod input; // input.rt: a record, as it is read
+mod lag; // lag.rt: the list of the encoder lag
+mod layout; // layout.rt: how a list is laid out
+mod pids; // pids.rt: the lists of the PID controllers
+mod subject; // subject.rt: what a run drives
+mod words; // words.rt: the words that an answer is compared by
+
+use crate::runs::compare::{agrees, show};
+use crate::runs::input::read_record;
+use crate::runs::layout::{Layout, ListOf, layout_of};
+use crate::runs::subject::Subject;
 use full_read::read_full;
 use harness::report::write_line;
 use harness::tally::Tally;
@@ -65,7 +74,7 @@ fn run_calls(rt: &HostRuntime, list: ListOf, header: &[u8], mut tally: Tally) ->
 }
 
 // Reads a run's header, and runs its calls.
-fn run_run(rt: &HostRuntime, list: ListOf, tally: Tally) -> io::Result<Tally> {
+fn run_one(rt: &HostRuntime, list: ListOf, tally: Tally) -> io::Result<Tally> {
     match read_record(rt, layout_of(list).header)? {
         Some(header) => run_calls(rt, list, &header, tally),
         None => Ok(cut_short(tally)),
@@ -80,7 +89,7 @@ fn run_list(rt: &HostRuntime, list: ListOf) -> io::Result<Tally> {
         ..Tally::new()
     };
     for _ in 0..word_at(&first, 0) {
-        tally = run_run(rt, list, tally)?;
+        tally = run_one(rt, list, tally)?;
         if tally.cut_short {
             break;
         }

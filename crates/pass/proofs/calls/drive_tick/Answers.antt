@@ -1,4 +1,4 @@
--- A search that gives up sooner than the one that needs no file: a wrong body is refused in two thirds of the time.
+-- Found without this file, too, but then a wrong body is refused later (docs/DECISIONS.md, 11.1).
 use Rattle.std.proofs.Common.{rules}
 use Rattle.pass.proofs.calls.drive_tick.Goals as goal
 

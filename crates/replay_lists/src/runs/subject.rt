@@ -2,10 +2,10 @@
 ghost use Rattle.std.specs.Prelude.{◌≡◌};
 ghost use Rattle.replay_lists.specs.Subject.{subject_of, stepped};
 
-use crate::lag::lag_at;
-use crate::layout::ListOf;
-use crate::pids::Pid;
-use crate::{brake, lag};
+use crate::runs::lag::lag_at;
+use crate::runs::layout::ListOf;
+use crate::runs::pids::Pid;
+use crate::runs::{brake, lag};
 use controllers::active_brake::ActiveBrakeController;
 use controllers::first_order_lag::FirstOrderLag;
 use tick_block::words::word_at;

@@ -2,7 +2,7 @@
 ghost use Rattle.std.specs.Prelude.{◌≡◌, ◌<◌, ◌≤◌};
 ghost use Rattle.replay_lists.specs.Pids.{gains_at, thresh_at, limits_at, settings_at, pid_of, answer, stepped};
 
-use crate::words::words_of;
+use crate::runs::words::words_of;
 use controllers::pid::{PidMemory, PidSettings};
 use params::PidGains;
 use std::array;

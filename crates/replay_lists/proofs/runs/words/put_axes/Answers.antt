@@ -1,6 +1,6 @@
 use Rattle.std.proofs.Common.{◌∙◌, sym, ◌<◌, ◌≤◌, length, arith}
 use Rattle.replay_lists.proofs.Loops.{put_next, put_done}
-use Rattle.replay_lists.proofs.words.put_axes.Goals as goal
+use Rattle.replay_lists.proofs.runs.words.put_axes.Goals as goal
 
 pub loop-i-preserved : goal.loop-i-preserved
 loop-i-preserved g c =

@@ -2,7 +2,7 @@
 use Rattle.std.proofs.Common.{rules, tests}
 use Rattle.linear.proofs.Arrays.{made}
 use Rattle.replay_lists.specs.Pids.{settings_at, pid_of}
-use Rattle.replay_lists.proofs.pids.Pid.of.Goals as goal
+use Rattle.replay_lists.proofs.runs.pids.Pid.of.Goals as goal
 
 pub returns : goal.returns
 unfolding pid_of

@@ -2,7 +2,7 @@
 ghost use Rattle.std.specs.Prelude.{◌≡◌};
 ghost use Rattle.replay_lists.specs.Brake.{answer, stepped};
 
-use crate::words::words_of;
+use crate::runs::words::words_of;
 use controllers::active_brake::ActiveBrakeController;
 use linear::{Vector4f, ZEROS_4};
 use tick_block::floats::floats_at;
