@@ -3,7 +3,7 @@
 use Rattle.std.proofs.Common.{◌≡◌, ℕ, zero, suc, ◌+◌, ◌-◌, ◌*◌, ◌/◌, ◌%◌, ◌^◌, ◌<◌, ◌≤◌, false, not, T, sym, refl, ap, ◌∙◌, subst, le_trans, le_of_eq, lt_of_lt_of_le, lt_of_le_of_lt, mul-le-mul_right, mul_assoc, suc-mul, mul_comm, add-mul, mul-le-mul, mul-lt-mul_of_pos_right, mul-pos, mul-suc, mul-add, mul_left_comm, lt_of_not-le, not-le_of_lt, arith, lit<, lit≤, pow_pos, pow_mono, pow-add, shl_lt}
 use native.Mathlib.Nat.{mul-mul-mul_comm, mul-sub, pow-succ', mod-eq_of_lt, le_of_suc-le-suc}
 use lib.Arith.{lt_of_le-ne}
-use lib.Ieee.{Float, binary32, units, nan_bits, of_bits}
+use lib.Ieee.{Float, binary32, nan_bits, of_bits}
 use lib.Ieee.Exact.{HasValue, units_val}
 use Rattle.ieee754.specs.Root.{root_of}
 use Rattle.ieee754.proofs.Whole.{IsRoot, root_lt, square_lt, double_square}
@@ -114,6 +114,14 @@ half_below u c = omega (arith, mul_comm (2 * u - 1) c, mul-sub c (2 * u) 1, mul_
 half_above : (u c : ℕ) → u * (2 * c) + c ≡ (2 * u + 1) * c
 half_above u c = omega (arith, add-mul (2 * u) 1 c, mul_left_comm u 2 c, mul_assoc 2 u c)
 
+-- The rounded root of w is u units of 2 ^ suc i, u having 24 digits. w is not below the binade's start, and lies between the squares of the points 2 ^ i, half a unit, below and above.
+pub record Rooted (w u i : ℕ) : Type 0 where
+  pub value : HasValue (root_of binary32 w) false (u * 2 ^ suc i) (2 ^ 149)
+  pub least : 2 ^ 23 ≤ u
+  pub reaches : 2 ^ (23 + suc i) * 2 ^ (23 + suc i) ≤ w
+  pub below : (u * 2 ^ suc i - 2 ^ i) * (u * 2 ^ suc i - 2 ^ i) < w
+  pub above : w < (u * 2 ^ suc i + 2 ^ i) * (u * 2 ^ suc i + 2 ^ i)
+
 module _ (m e p u : ℕ) (lo : 2 ^ 23 ≤ m) (hi : m < 2 ^ 24) (digit : p ≡ e % 2) (two-points : Points (m * (2 ^ 25 * (1 + p))) u) where
   bounds : (2 ^ 48 ≤ m * (2 ^ 25 * (1 + p))) × (m * (2 ^ 25 * (1 + p)) ≤ 2 ^ 50 - 2 ^ 26) × (m * (2 ^ 25 * (1 + p)) ≡ 4 * (m * (2 ^ 23 * (1 + p))))
   bounds = doubled m p (omega arith) lo hi
@@ -125,25 +133,34 @@ module _ (m e p u : ℕ) (lo : 2 ^ 23 ≤ m) (hi : m < 2 ^ 24) (digit : p ≡ e 
   pub root_most : u < 2 ^ 24
   root_most = omega (arith, root_lt (2 * u - 1) (2 ^ 25 - 1) (lt_of_lt_of_le two-points.0 (le_trans bounds.1 (lit≤ tt))))
 
-  pub root_by_points : 2 ≤ e → e < 380 → root_of binary32 (m * 2 ^ (e + 23)) ≡ of_bits binary32 (e / 2 * 2 ^ 23 + u)
-  root_by_points e-lo e-hi =
+  rooted : 2 ≤ e → e < 380 → Rooted (m * 2 ^ (e + 23)) u (e / 2 - 1)
+  rooted e-lo e-hi =
       let i = e / 2 - 1 in
-      let half : e / 2 ≡ suc i = omega arith in
       let n = m * (2 ^ 25 * (1 + p)) in
       let w = m * 2 ^ (e + 23) in
       let c = 2 ^ i in
       let unit : 2 ^ suc i ≡ 2 * c = pow-succ' 2 i in
-      let w-is : w ≡ n * (c * c) = split_power m e p i digit half in
-      let is : root_of binary32 w ≡ units binary32 false u (suc i) =
-      root_is binary32 23 refl w u i
-      (scaled_le (2 ^ 24) n c w (2 ^ (23 + suc i)) (ap (λ (x : ℕ). 2 ^ x) (omega arith) ∙ pow-add 2 24 i) w-is bounds.0)
-      (scaled_gt (2 ^ 25) n c w (2 ^ (24 + suc i)) (ap (λ (x : ℕ). 2 ^ x) (omega arith) ∙ pow-add 2 25 i) w-is (pow_pos i) (lt_of_le_of_lt bounds.1 (lit< tt)))
-      (scaled_lt (2 * u - 1) n c w (u * 2 ^ suc i - c) (ap (λ (x : ℕ). u * x - c) unit ∙ half_below u c) w-is (pow_pos i) two-points.0)
-      (scaled_gt (2 * u + 1) n c w (u * 2 ^ suc i + c) (ap (λ (x : ℕ). u * x + c) unit ∙ half_above u c) w-is (pow_pos i) two-points.1) in
-      let value : HasValue (root_of binary32 w) false (u * 2 ^ suc i) (2 ^ 149) =
-      subst (λ (x : Float). HasValue x false (u * 2 ^ suc i) (2 ^ 149)) (sym is)
-      (units_val binary32 false u (suc i) (lt_of_lt_of_le (shl_lt 24 (suc i) root_most) (pow_mono {i = 24 + suc i} {j = 277} (omega arith)))) in
-      normal_bits (root_of binary32 w) u (suc i) (root_fits binary32 w) value root_least root_most ∙ ap (λ (x : ℕ). of_bits binary32 (x * 2 ^ 23 + u)) (sym half)
+      let w-is : w ≡ n * (c * c) = split_power m e p i digit (omega arith) in
+      let reaches = scaled_le (2 ^ 24) n c w (2 ^ (23 + suc i)) (ap (λ (x : ℕ). 2 ^ x) (omega arith) ∙ pow-add 2 24 i) w-is bounds.0 in
+      let below = scaled_lt (2 * u - 1) n c w (u * 2 ^ suc i - c) (ap (λ (x : ℕ). u * x - c) unit ∙ half_below u c) w-is (pow_pos i) two-points.0 in
+      let above = scaled_gt (2 * u + 1) n c w (u * 2 ^ suc i + c) (ap (λ (x : ℕ). u * x + c) unit ∙ half_above u c) w-is (pow_pos i) two-points.1 in
+      let ends = scaled_gt (2 ^ 25) n c w (2 ^ (24 + suc i)) (ap (λ (x : ℕ). 2 ^ x) (omega arith) ∙ pow-add 2 25 i) w-is (pow_pos i) (lt_of_le_of_lt bounds.1 (lit< tt)) in
+      record {
+        value =
+            subst (λ (x : Float). HasValue x false (u * 2 ^ suc i) (2 ^ 149)) (sym (root_is binary32 23 refl w u i reaches ends below above))
+            (units_val binary32 false u (suc i) (lt_of_lt_of_le (shl_lt 24 (suc i) root_most) (pow_mono {i = 24 + suc i} {j = 277} (omega arith))));
+        least = root_least;
+        reaches = reaches;
+        below = below;
+        above = above;
+      }
+
+  pub root_by_points : 2 ≤ e → e < 380 → root_of binary32 (m * 2 ^ (e + 23)) ≡ of_bits binary32 (e / 2 * 2 ^ 23 + u)
+  root_by_points e-lo e-hi =
+      let w = m * 2 ^ (e + 23) in
+      let half : suc (e / 2 - 1) ≡ e / 2 = omega arith in
+      normal_bits (root_of binary32 w) u (suc (e / 2 - 1)) (root_fits binary32 w) (rooted e-lo e-hi).value root_least root_most
+      ∙ ap (λ (x : ℕ). of_bits binary32 (x * 2 ^ 23 + u)) half
 
 -- ---- the two ways to the digits, each with the word of the result
 
@@ -160,6 +177,9 @@ module _ (m e s : ℕ) (lo : 2 ^ 23 ≤ m) (hi : m < 2 ^ 24) (e-lo : 2 ≤ e) (e
 
   pub counted_finite : T (not (nan_bits binary32 (e / 2 * 2 ^ 23 + (s + 1) / 2)))
   counted_finite = finite_bits _ (omega (arith, counted_most))
+
+  pub counted_root : Rooted (m * 2 ^ (e + 23)) ((s + 1) / 2) (e / 2 - 1)
+  counted_root = rooted m e (e % 2) ((s + 1) / 2) lo hi refl counted_points e-lo e-hi
 
   pub counted_word : of_bits binary32 (e / 2 * 2 ^ 23 + (s + 1) / 2) ≡ root_of binary32 (m * 2 ^ (e + 23))
   counted_word = sym (root_by_points m e (e % 2) ((s + 1) / 2) lo hi refl counted_points e-lo e-hi)

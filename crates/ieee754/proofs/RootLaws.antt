@@ -1,75 +1,149 @@
--- square_root held to the standard (`root_nearest`): for a finite x above zero the result is u * 2 ^ k units of 2 ^ -149, u having 24 digits, and x lies between the squares of the
--- two points half of 2 ^ k, half a unit in the last place, below and above the result.
-use Rattle.std.proofs.Common.{◌≡◌, ℕ, ◌+◌, ◌-◌, ◌*◌, ◌/◌, ◌%◌, ◌^◌, ◌<◌, ◌≤◌, false, T, sym, ap, ◌∙◌, subst, le_trans, le_of_eq, lt_of_lt_of_le, lt_of_le_of_lt, mul-le-mul_right, zero-lt-suc, mul_assoc, mul-le-mul, mul-lt-mul_of_pos_right, mul-pos, one-mul, mul_right_comm, arith, lit≤, pow_pos, pow_mono, shl_lt}
-use native.Mathlib.Nat.{mul-lt-mul_of_pos_left}
+-- square_root held to the standard (`root_nearest`): for a finite x above zero it is the float nearest to the root. Of the root of w, which is x in units, `Rooted` knows the two points half a
+-- unit away (`past` and `short`); other floats are whole units away, but for those below the start of the binade.
+use Rattle.std.proofs.Common.{◌≡◌, ℕ, suc, ◌+◌, ◌-◌, ◌*◌, ◌/◌, ◌%◌, ◌^◌, ◌<◌, ◌≤◌, false, T, sym, ap, ◌∙◌, subst, le_trans, le_of_eq, le_of_lt, lt_of_lt_of_le, lt_of_le_of_lt, mul-le-mul_right, zero-lt-suc, suc-mul, mul_assoc, mul_comm, mul-le-mul, mul-le-mul_left, mul-lt-mul_of_pos_right, mul-pos, mul-one, lt_of_not-le, not-le_of_lt, arith, lit≤, pow_pos, pow_mono, pow-add, shl_lt}
+use native.Mathlib.Nat.{mul-lt-mul_of_pos_left, lt_of_mul-lt-mul_right}
 use native.Mathlib.Decide.{dec_lt}
-use lib.Ieee.{Float, binary32, fits, of_bits, to_bits}
-use lib.Ieee.Exact.{HasValue, units_val}
-use lib.Ieee.Positive.{num, den, positive, value→cross}
+use lib.Ieee.{Float, binary32, size, fits, of_bits, to_bits}
+use lib.Ieee.Digits.{size-lt, size-le, size_reaches}
+use lib.Ieee.Exact.{HasValue}
+use lib.Ieee.Positive.{num, den, positive, den_pos, positive_of_value, value→cross}
 use lib.Ieee.Bits.{of_bits-to_bits}
 use Rattle.ieee754.specs.Root.{whole_root, square_root}
-use Rattle.ieee754.specs.Laws.{NearestRoot}
-use Rattle.ieee754.proofs.Whole.{root_lt, whole_root_lem}
-use Rattle.ieee754.proofs.Rounded.{root_brackets}
+use Rattle.ieee754.specs.Laws.{InUnits, NearestRoot}
+use Rattle.ieee754.proofs.Whole.{square_lt, double_square, whole_root_lem}
+use Rattle.ieee754.proofs.Rounded.{root_fits}
 use Rattle.ieee754.proofs.Patterns.{low_value, high_value}
+use Rattle.ieee754.proofs.Normal.{Rooted, counted_root, digit_gained}
 use Rattle.ieee754.proofs.Positive.{root_of_value, word_range}
+use Rattle.ieee754.proofs.Values.{same_size}
 
--- ---- a float above zero in units of 2 ^ -149
-abbrev InUnits : Float → Type 0
-InUnits x = (n : ℕ) × (0 < n) × (n < 2 ^ 277) × HasValue x false n (2 ^ 149)
+-- ---- a float above zero is m * 2 ^ e units, m having at most 24 digits
+record Digits (x : Float) : Type 0 where
+  m : ℕ
+  e : ℕ
+  least : 0 < m
+  most : m < 2 ^ 24
+  finite : e < 254
+  value : HasValue x false (m * 2 ^ e) (2 ^ 149)
 
-bits_in_units : (b : ℕ) → 0 < b → b < 0x7f80_0000 → InUnits (of_bits binary32 b)
-bits_in_units b B h = either (dec_lt b (2 ^ 23))
+digits : (x : Float) → T (positive x) → T (fits binary32 x) → Digits x
+digits x p h = subst Digits (of_bits-to_bits binary32 x h) (of_word (to_bits binary32 x) (word_range x p h))
   where
-    either : Dec (b < 2 ^ 23) → InUnits (of_bits binary32 b)
-    either (yes l) = (b, B, lt_of_lt_of_le l (lit≤ tt), low_value b l)
-    either (no l) = (
-      (2 ^ 23 + b % 2 ^ 23) * 2 ^ (b / 2 ^ 23 - 1),
-      mul-pos (omega arith) (pow_pos (b / 2 ^ 23 - 1)),
-      lt_of_lt_of_le (shl_lt 24 (b / 2 ^ 23 - 1) (omega arith)) (pow_mono {i = 24 + (b / 2 ^ 23 - 1)} {j = 277} (omega arith)),
-      high_value b (omega arith) h,
+    of_word : (b : ℕ) → (0 < b) × (b < 0x7f80_0000) → Digits (of_bits binary32 b)
+    of_word b r = either (dec_lt b (2 ^ 23))
+      where
+        either : Dec (b < 2 ^ 23) → Digits (of_bits binary32 b)
+        either (yes l) = record {
+          m = b;
+          e = 0;
+          least = r.0;
+          most = omega arith;
+          finite = omega arith;
+          value = subst (λ (n : ℕ). HasValue (of_bits binary32 b) false n (2 ^ 149)) (sym (mul-one b)) (low_value b l);
+        }
+        either (no l) = record {
+          m = 2 ^ 23 + b % 2 ^ 23;
+          e = b / 2 ^ 23 - 1;
+          least = omega arith;
+          most = omega arith;
+          finite = omega (arith, r);
+          value = high_value b (omega arith) r.1;
+        }
+
+-- from 2 ^ 23 of the units 2 ^ k on, a float is whole such units
+on_grid : (w : Float) (b k : ℕ) → InUnits w b → 2 ^ 23 * 2 ^ k ≤ b → (c : ℕ) × (b ≡ c * 2 ^ k)
+on_grid w b k v h =
+    let d = digits w (positive_of_value w b (2 ^ 149) v.1 (lt_of_lt_of_le (mul-pos (lit≤ tt) (pow_pos k)) h)) v.0 in
+    let is : b ≡ d.m * 2 ^ d.e = same_size w false false b (d.m * 2 ^ d.e) (2 ^ 149) v.1 d.value in
+    let below : b < 2 ^ (24 + d.e) = lt_of_le_of_lt (le_of_eq is) (shl_lt 24 d.e d.most) in
+    let most : k < suc d.e = lt_of_not-le (λ (g : suc d.e ≤ k). not-le_of_lt below (le_trans (pow_mono {i = 24 + d.e} {j = 23 + k} (omega arith)) (le_trans (le_of_eq (pow-add 2 23 k)) h))) in
+    let sum : d.e ≡ d.e - k + k = omega arith in (
+      d.m * 2 ^ (d.e - k),
+      is ∙ ap (λ (z : ℕ). d.m * 2 ^ z) sum ∙ ap (λ (z : ℕ). d.m * z) (pow-add 2 (d.e - k) k) ∙ sym (mul_assoc d.m (2 ^ (d.e - k)) (2 ^ k)),
     )
 
-in_units : (x : Float) → T (positive x) → T (fits binary32 x) → InUnits x
-in_units x p h = let r = word_range x p h in subst InUnits (of_bits-to_bits binary32 x h) (bits_in_units (to_bits binary32 x) r.0 r.1)
+-- ---- a float of b units beside the root of w, u units of 2 ^ suc i
 
--- ---- the whole root of n * 2 ^ 149 has more digits than the format keeps
-wide : (n : ℕ) → 0 < n → 2 ^ 24 ≤ whole_root (n * 2 ^ 149)
-wide n N =
-    let w = n * 2 ^ 149 in
-    let large : 2 ^ 24 * 2 ^ 24 ≤ w = le_trans (lit≤ {n = 1 * 2 ^ 149} tt) (mul-le-mul_right (2 ^ 149) N) in
-    let next : 2 ^ 24 < whole_root w + 1 = root_lt (2 ^ 24) (whole_root w + 1) (lt_of_le_of_lt large (whole_root_lem w).1) in
-    omega arith
+-- of two whole numbers of units the larger is a unit larger
+step : (u c unit : ℕ) → u * unit < c * unit → u * unit + unit ≤ c * unit
+step u c unit h = le_trans (le_of_eq (sym (suc-mul u unit))) (mul-le-mul_right unit (lt_of_mul-lt-mul_right unit h))
 
--- ---- the result is finite
-finite_root : (n u k : ℕ) → n < 2 ^ 277 → 2 ^ 23 ≤ u → (2 * (u * 2 ^ k) - 2 ^ k) * (2 * (u * 2 ^ k) - 2 ^ k) ≤ 4 * (n * 2 ^ 149) → u * 2 ^ k < 2 ^ 277
-finite_root n u k N U h =
-    let r = u * 2 ^ k in
-    let unit : 2 ^ k ≤ r = le_trans (le_of_eq (sym (one-mul (2 ^ k)))) (mul-le-mul_right (2 ^ k) (le_trans (lit≤ tt) U)) in
-    let less : r ≤ 2 * r - 2 ^ k = omega arith in
-    lt_of_lt_of_le
-    (root_lt r (2 ^ 214) (lt_of_le_of_lt (le_trans (mul-le-mul less less) h) (mul-lt-mul_of_pos_left (mul-lt-mul_of_pos_right N (pow_pos 149)) (zero-lt-suc 3))))
-    (lit≤ tt)
+-- the square of a doubled number
+four : (v : ℕ) → 2 * v * (2 * v) ≡ 4 * (v * v)
+four v = double_square v ∙ mul_comm (v * v) 4
 
--- ---- from w = x * 4 ^ 149 to x
-module _ (x : Float) (n : ℕ) (v : HasValue x false n (2 ^ 149)) where
-  scaled : 4 * (n * 2 ^ 149) * den x ≡ 4 * (num x * 4 ^ 149)
-  scaled =
-      mul_assoc 4 (n * 2 ^ 149) (den x)
-      ∙ ap (λ (z : ℕ). 4 * z) (mul_right_comm n (2 ^ 149) (den x) ∙ ap (λ (z : ℕ). z * 2 ^ 149) (sym (value→cross x n (2 ^ 149) v)) ∙ mul_assoc (num x) (2 ^ 149) (2 ^ 149))
+module _ (w u i b : ℕ) (R : Rooted w u i) (grid : 2 ^ 23 * 2 ^ suc i ≤ b → (c : ℕ) × (b ≡ c * 2 ^ suc i)) where
+  abbrev a : ℕ
+  a = u * 2 ^ suc i
+
+  over : a < b → 4 * w < (a + b) * (a + b)
+  over h =
+      let c = grid (le_trans (mul-le-mul_right (2 ^ suc i) R.least) (le_of_lt h)) in
+      let next : a + 2 ^ suc i ≤ b = rw c.1 (step u c.0 (2 ^ suc i) (subst (λ (z : ℕ). a < z) c.1 h)) in
+      let double : 2 * (a + 2 ^ i) ≤ a + b = omega arith in
+      lt_of_lt_of_le (mul-lt-mul_of_pos_left R.above (zero-lt-suc 3)) (le_trans (le_of_eq (sym (four (a + 2 ^ i)))) (mul-le-mul double double))
+
+  under : b < a → (a + b) * (a + b) < 4 * w
+  under h = go (dec_lt b (2 ^ 23 * 2 ^ suc i)) (dec_lt (2 ^ 23) u)
+    where
+      a_unit : b + 2 ^ suc i ≤ a → (a + b) * (a + b) < 4 * w
+      a_unit n =
+          let double : a + b ≤ 2 * (a - 2 ^ i) = omega arith in
+          lt_of_le_of_lt (le_trans (mul-le-mul double double) (le_of_eq (four (a - 2 ^ i)))) (mul-lt-mul_of_pos_left R.below (zero-lt-suc 3))
+
+      go : Dec (b < 2 ^ 23 * 2 ^ suc i) → Dec (2 ^ 23 < u) → (a + b) * (a + b) < 4 * w
+      go (no l) g =
+          let c = grid (omega arith) in
+          a_unit (rw c.1 (step c.0 u (2 ^ suc i) (subst (λ (z : ℕ). z < a) c.1 h)))
+      go (yes l) (yes g) = a_unit (omega (arith, step (2 ^ 23) u (2 ^ suc i) (mul-lt-mul_of_pos_right g (pow_pos (suc i)))))
+      -- where a is the start of the binade, the floats below are less than a unit away, but the root is not below a
+      go (yes l) (no g) =
+          let least : 2 ^ 23 ≤ u = R.least in
+          let is : a ≡ 2 ^ (23 + suc i) = ap (λ (z : ℕ). z * 2 ^ suc i) (omega arith) ∙ sym (pow-add 2 23 (suc i)) in
+          let less : a + b < 2 * a = omega arith in
+          lt_of_lt_of_le (square_lt (a + b) (2 * a) less) (le_trans (le_of_eq (four a)) (mul-le-mul_left 4 (subst (λ (z : ℕ). z * z ≤ w) (sym is) R.reaches)))
+
+-- ---- the root of x
+
+-- m is brought to 24 digits first; half of a whole root has the root's digits
+rooted : (m e : ℕ) → 0 < m → m < 2 ^ 24 → e < 254 → (u : ℕ) × (i : ℕ) × Rooted (m * 2 ^ e * 2 ^ 149) u i
+rooted m e M H E =
+    let z = size m in
+    let some : 0 < z = lt_of_not-le (λ (g : z ≤ 0). not-le_of_lt (lt_of_lt_of_le (size-lt m) (pow_mono {i = z} {j = 0} g)) M) in
+    let most : z ≤ 24 = size-le m 24 H in
+    let k = 24 - z in
+    let lo : 2 ^ 23 ≤ m * 2 ^ k =
+    let sum : 23 ≡ z - 1 + k = omega arith in
+    le_trans (le_of_eq (ap (λ (x : ℕ). 2 ^ x) sum ∙ pow-add 2 (z - 1) k)) (mul-le-mul_right (2 ^ k) (size_reaches m (z - 1) (omega arith))) in
+    let hi : m * 2 ^ k < 2 ^ 24 = lt_of_lt_of_le (shl_lt z k (size-lt m)) (pow_mono {i = z + k} {j = 24} (omega arith)) in
+    let f = e + 126 - k in
+    let n = m * 2 ^ k * (2 ^ 25 * (1 + f % 2)) in
+    let s = whole_root n in
+    let u = (s + 1) / 2 in
+    let i = f / 2 - 1 in
+    let sum : e + 126 + 23 ≡ e + 149 = omega arith in (
+      u,
+      i,
+      subst (λ (w : ℕ). Rooted w u i)
+          (digit_gained m k (e + 126) (m * 2 ^ e * 2 ^ 149) (omega arith) (ap (λ (x : ℕ). m * 2 ^ x) sum ∙ ap (λ (x : ℕ). m * x) (pow-add 2 e 149) ∙ sym (mul_assoc m (2 ^ e) (2 ^ 149))))
+          (counted_root (m * 2 ^ k) f s lo hi (omega arith) (omega arith) (whole_root_lem n).0 (whole_root_lem n).1),
+    )
+
+-- from units to x
+scaled : (x : Float) (n : ℕ) → HasValue x false n (2 ^ 149) → 4 * (n * 2 ^ 149) * den x ≡ num x * 4 ^ 150
+scaled x n v = omega (arith, value→cross x n (2 ^ 149) v)
 
 pub root_nearest : (x : Float) → T (positive x) → T (fits binary32 x) → NearestRoot x (square_root binary32 x)
 root_nearest x p h =
-    let g = in_units x p h in
-    let n = g.0 in
-    let R = root_brackets binary32 (n * 2 ^ 149) (wide n g.1) in
-    let value = units_val binary32 false R.u R.k (finite_root n R.u R.k g.2 R.least R.encloses.0) in
+    let d = digits x p h in
+    let n = d.m * 2 ^ d.e in
+    let w = n * 2 ^ 149 in
+    let r = rooted d.m d.e d.least d.most d.finite in
+    let a = r.0 * 2 ^ suc r.1 in
+    let is = root_of_value x n (mul-pos d.least (pow_pos d.e)) d.value in
     record {
-      u = R.u;
-      k = R.k;
-      value = subst (λ (r : Float). HasValue r false (R.u * 2 ^ R.k) (2 ^ 149)) (sym (root_of_value x n g.1 g.3 ∙ R.is)) value;
-      least = R.least;
-      most = R.most;
-      lower = le_trans (mul-le-mul_right (den x) R.encloses.0) (le_of_eq (scaled x n g.3));
-      upper = le_trans (le_of_eq (sym (scaled x n g.3))) (mul-le-mul_right (den x) R.encloses.1);
+      a = a;
+      value = subst (λ (y : Float). InUnits y a) (sym is) (root_fits binary32 w, r.2.value);
+      above = λ y b v l. subst (λ (z : ℕ). z < (a + b) * (a + b) * den x) (scaled x n d.value) (mul-lt-mul_of_pos_right (over w r.0 r.1 b r.2 (on_grid y b (suc r.1) v) l) (den_pos x));
+      below = λ y b v l. subst (λ (z : ℕ). (a + b) * (a + b) * den x < z) (scaled x n d.value) (mul-lt-mul_of_pos_right (under w r.0 r.1 b r.2 (on_grid y b (suc r.1) v) l) (den_pos x));
     }

@@ -14,16 +14,17 @@ use Rattle.ieee754.specs.Hypot.{hypotenuse}
 
 -- ---- the root
 
--- r is the root of x to the nearest: it is u * 2 ^ k units of 2 ^ -149, u having 24 digits, and x lies between the squares of the two points
--- half of 2 ^ k, half a unit in the last place, below and above r. Both points are doubled, so that nothing is halved.
+-- the float r is not negative, and a units of 2 ^ -149
+abbrev pub InUnits : Float → ℕ → Type 0
+InUnits r a = T (fits binary32 r) × HasValue r false a (2 ^ 149)
+
+-- r is the float nearest to the root of x: beside every other float, of b units, the root lies on r's side of the point midway between the two. That point is
+-- a + b units of 2 ^ -150, and x lies beside its square. (A float below zero is farther off than 0.0, and left out.)
 pub record NearestRoot (x r : Float) : Type 0 where
-  pub u : ℕ
-  pub k : ℕ
-  pub value : HasValue r false (u * 2 ^ k) (2 ^ 149)
-  pub least : 2 ^ 23 ≤ u
-  pub most : u ≤ 2 ^ 24
-  pub lower : (2 * (u * 2 ^ k) - 2 ^ k) * (2 * (u * 2 ^ k) - 2 ^ k) * den x ≤ 4 * (num x * 4 ^ 149)
-  pub upper : 4 * (num x * 4 ^ 149) ≤ (2 * (u * 2 ^ k) + 2 ^ k) * (2 * (u * 2 ^ k) + 2 ^ k) * den x
+  pub a : ℕ
+  pub value : InUnits r a
+  pub above : (w : Float) (b : ℕ) → InUnits w b → a < b → num x * 4 ^ 150 < (a + b) * (a + b) * den x
+  pub below : (w : Float) (b : ℕ) → InUnits w b → b < a → (a + b) * (a + b) * den x < num x * 4 ^ 150
 
 -- so it is for every finite x above zero that binary32 holds
 abbrev pub RootIsNearest : Type 0

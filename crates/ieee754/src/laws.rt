@@ -5,7 +5,7 @@ ghost use Rattle.ieee754.specs.Laws.{RemainderZeroHasSign, RemIsExact, HypotIsSy
 ghost use Rattle.ieee754.specs.Laws.{ReadWordIsWritten, ClampIsBetween, ClampIsLowerAtNan, ClampWithinIsBetween};
 ghost use Rattle.ieee754.specs.Laws.{ClampWithinKeepsNan};
 
-/// The square root is IEEE 754's: the float nearest to the exact root.
+/// The square root is IEEE 754's: the float nearest to the exact root, which is never midway between two.
 #[tactic(auto, using(crate::proofs::RootLaws::root_nearest))]
 pub fn root_is_nearest()
     ensures nearest { RootIsNearest }
