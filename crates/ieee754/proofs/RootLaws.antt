@@ -1,7 +1,7 @@
--- square_root held to the standard (`root_nearest`): for a finite x above zero it is the float nearest to the root. Of the root of w, which is x in units, `Rooted` knows the two points half a
--- unit away (`past` and `short`); other floats are whole units away, but for those below the start of the binade.
-use Rattle.std.proofs.Common.{◌≡◌, ℕ, suc, ◌+◌, ◌-◌, ◌*◌, ◌/◌, ◌%◌, ◌^◌, ◌<◌, ◌≤◌, false, T, sym, ap, ◌∙◌, subst, le_trans, le_of_eq, le_of_lt, lt_of_lt_of_le, lt_of_le_of_lt, mul-le-mul_right, zero-lt-suc, suc-mul, mul_assoc, mul_comm, mul-le-mul, mul-le-mul_left, mul-lt-mul_of_pos_right, mul-pos, mul-one, lt_of_not-le, not-le_of_lt, arith, lit≤, pow_pos, pow_mono, pow-add, shl_lt}
-use native.Mathlib.Nat.{mul-lt-mul_of_pos_left, lt_of_mul-lt-mul_right}
+-- square_root held to the standard (`root_nearest`): for a finite x above zero it is the float nearest to the root. w is x in units, and `Rooted` has the two points half a unit away from the
+-- root's float. A float above it is a unit away at least (`over`), and so is one below, but for those below the start of the binade (`under`).
+use Rattle.std.proofs.Common.{◌≡◌, ℕ, suc, ◌+◌, ◌-◌, ◌*◌, ◌/◌, ◌%◌, ◌^◌, ◌<◌, ◌≤◌, false, T, sym, ap, ◌∙◌, subst, le_trans, le_of_eq, le_of_lt, lt_of_lt_of_le, lt_of_le_of_lt, mul-le-mul_right, zero-lt-suc, suc-mul, mul_assoc, mul-le-mul, mul-le-mul_left, mul-lt-mul_of_pos_right, mul-pos, mul-one, lt_of_not-le, not-le_of_lt, arith, lit≤, pow_pos, pow_mono, pow-add, shl_lt}
+use native.Mathlib.Nat.{mul-mul-mul_comm, mul-lt-mul_of_pos_left, lt_of_mul-lt-mul_right}
 use native.Mathlib.Decide.{dec_lt}
 use lib.Ieee.{Float, binary32, size, fits, of_bits, to_bits}
 use lib.Ieee.Digits.{size-lt, size-le, size_reaches}
@@ -10,7 +10,7 @@ use lib.Ieee.Positive.{num, den, positive, den_pos, positive_of_value, value→c
 use lib.Ieee.Bits.{of_bits-to_bits}
 use Rattle.ieee754.specs.Root.{whole_root, square_root}
 use Rattle.ieee754.specs.Laws.{InUnits, NearestRoot}
-use Rattle.ieee754.proofs.Whole.{square_lt, double_square, whole_root_lem}
+use Rattle.ieee754.proofs.Whole.{square_lt, whole_root_lem}
 use Rattle.ieee754.proofs.Rounded.{root_fits}
 use Rattle.ieee754.proofs.Patterns.{low_value, high_value}
 use Rattle.ieee754.proofs.Normal.{Rooted, counted_root, digit_gained}
@@ -64,13 +64,13 @@ on_grid w b k v h =
 
 -- ---- a float of b units beside the root of w, u units of 2 ^ suc i
 
--- of two whole numbers of units the larger is a unit larger
+-- of two whole numbers of units the larger is larger by a unit
 step : (u c unit : ℕ) → u * unit < c * unit → u * unit + unit ≤ c * unit
 step u c unit h = le_trans (le_of_eq (sym (suc-mul u unit))) (mul-le-mul_right unit (lt_of_mul-lt-mul_right unit h))
 
 -- the square of a doubled number
 four : (v : ℕ) → 2 * v * (2 * v) ≡ 4 * (v * v)
-four v = double_square v ∙ mul_comm (v * v) 4
+four v = mul-mul-mul_comm 2 v 2 v
 
 module _ (w u i b : ℕ) (R : Rooted w u i) (grid : 2 ^ 23 * 2 ^ suc i ≤ b → (c : ℕ) × (b ≡ c * 2 ^ suc i)) where
   abbrev a : ℕ
@@ -109,23 +109,22 @@ module _ (w u i b : ℕ) (R : Rooted w u i) (grid : 2 ^ 23 * 2 ^ suc i ≤ b →
 rooted : (m e : ℕ) → 0 < m → m < 2 ^ 24 → e < 254 → (u : ℕ) × (i : ℕ) × Rooted (m * 2 ^ e * 2 ^ 149) u i
 rooted m e M H E =
     let z = size m in
-    let some : 0 < z = lt_of_not-le (λ (g : z ≤ 0). not-le_of_lt (lt_of_lt_of_le (size-lt m) (pow_mono {i = z} {j = 0} g)) M) in
+    let least : 0 < z = lt_of_not-le (λ (g : z ≤ 0). not-le_of_lt (lt_of_lt_of_le (size-lt m) (pow_mono {i = z} {j = 0} g)) M) in
     let most : z ≤ 24 = size-le m 24 H in
     let k = 24 - z in
-    let lo : 2 ^ 23 ≤ m * 2 ^ k =
-    let sum : 23 ≡ z - 1 + k = omega arith in
-    le_trans (le_of_eq (ap (λ (x : ℕ). 2 ^ x) sum ∙ pow-add 2 (z - 1) k)) (mul-le-mul_right (2 ^ k) (size_reaches m (z - 1) (omega arith))) in
+    let digits_sum : 23 ≡ z - 1 + k = omega arith in
+    let lo : 2 ^ 23 ≤ m * 2 ^ k = le_trans (le_of_eq (ap (λ (x : ℕ). 2 ^ x) digits_sum ∙ pow-add 2 (z - 1) k)) (mul-le-mul_right (2 ^ k) (size_reaches m (z - 1) (omega arith))) in
     let hi : m * 2 ^ k < 2 ^ 24 = lt_of_lt_of_le (shl_lt z k (size-lt m)) (pow_mono {i = z + k} {j = 24} (omega arith)) in
     let f = e + 126 - k in
     let n = m * 2 ^ k * (2 ^ 25 * (1 + f % 2)) in
     let s = whole_root n in
     let u = (s + 1) / 2 in
     let i = f / 2 - 1 in
-    let sum : e + 126 + 23 ≡ e + 149 = omega arith in (
+    let exponents_sum : e + 126 + 23 ≡ e + 149 = omega arith in (
       u,
       i,
       subst (λ (w : ℕ). Rooted w u i)
-          (digit_gained m k (e + 126) (m * 2 ^ e * 2 ^ 149) (omega arith) (ap (λ (x : ℕ). m * 2 ^ x) sum ∙ ap (λ (x : ℕ). m * x) (pow-add 2 e 149) ∙ sym (mul_assoc m (2 ^ e) (2 ^ 149))))
+          (digit_gained m k (e + 126) (m * 2 ^ e * 2 ^ 149) (omega arith) (ap (λ (x : ℕ). m * 2 ^ x) exponents_sum ∙ ap (λ (x : ℕ). m * x) (pow-add 2 e 149) ∙ sym (mul_assoc m (2 ^ e) (2 ^ 149))))
           (counted_root (m * 2 ^ k) f s lo hi (omega arith) (omega arith) (whole_root_lem n).0 (whole_root_lem n).1),
     )
 

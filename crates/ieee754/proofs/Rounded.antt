@@ -52,7 +52,7 @@ root_fits f w = subst (λ (x : Float). T (fits f x)) (sym (root_of_is f w)) (rou
 
 -- ---- r is the multiple of 2 * h nearest to q and a half of t: 2 * r is within 2 * h of 2 * q + t
 module _ (w q t r h : ℕ) (root : IsRoot w q) (c : Cut w q t) where
-  -- a strict enclosure by the squares of r - h and r + h is strict there
+  -- it is strictly so near where the squares of r - h and r + h enclose w strictly
   strictly_below : (r - h) * (r - h) < w → 2 * r < 2 * q + t + 2 * h
   strictly_below n = go c
     where

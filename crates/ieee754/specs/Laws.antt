@@ -14,12 +14,12 @@ use Rattle.ieee754.specs.Hypot.{hypotenuse}
 
 -- ---- the root
 
--- the float r is not negative, and a units of 2 ^ -149
+-- r is a value of binary32, not negative: a units of 2 ^ -149, the smallest value above zero
 abbrev pub InUnits : Float → ℕ → Type 0
 InUnits r a = T (fits binary32 r) × HasValue r false a (2 ^ 149)
 
 -- r is the float nearest to the root of x: beside every other float, of b units, the root lies on r's side of the point midway between the two. That point is
--- a + b units of 2 ^ -150, and x lies beside its square. (A float below zero is farther off than 0.0, and left out.)
+-- a + b units of 2 ^ -150, and its square is compared with x, which is num x / den x. (A float below zero is farther off than 0.0, and left out.)
 pub record NearestRoot (x r : Float) : Type 0 where
   pub a : ℕ
   pub value : InUnits r a
