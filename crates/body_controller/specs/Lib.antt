@@ -5,3 +5,4 @@ pub mod Sight
 pub mod Plan
 pub mod Steer
 pub mod Finish
+pub mod InTurn

@@ -39,21 +39,51 @@ impl PlanAnswer {
     }
 }
 
-/// The Rust's derived equality: the same kind, and the fields equal as floats. A NaN equals nothing, and -0.0
-/// equals 0.0.
+/// Whether two commands are of the same kind and their fields equal as floats, each with the one at its place: a NaN
+/// equals nothing, and -0.0 equals 0.0. The Rust derives it.
 #[tactic(auto, unfolding(crate::specs::Equality::fields_equal))]
 pub fn commands_equal(c: ManeuverCommand, o: ManeuverCommand) -> bool
     ensures { result ≡ equal c o }
 {
-    c == o
+    match (c, o) {
+        (ManeuverCommand::Off, ManeuverCommand::Off) => true,
+        (ManeuverCommand::Brake, ManeuverCommand::Brake) => true,
+        (ManeuverCommand::GlobalPosition(c), ManeuverCommand::GlobalPosition(o)) => {
+            c.target_pose.x == o.target_pose.x
+                && c.target_pose.y == o.target_pose.y
+                && c.target_pose.z == o.target_pose.z
+                && c.max_linear_vel == o.max_linear_vel
+                && c.max_angular_vel == o.max_angular_vel
+                && c.max_linear_acc == o.max_linear_acc
+                && c.max_angular_acc == o.max_angular_acc
+        }
+        (ManeuverCommand::HeadingLine(c), ManeuverCommand::HeadingLine(o)) => {
+            c.global_theta == o.global_theta
+                && c.start_x == o.start_x
+                && c.start_y == o.start_y
+                && c.dir_x == o.dir_x
+                && c.dir_y == o.dir_y
+                && c.line_velocity == o.line_velocity
+                && c.max_vel_colinear == o.max_vel_colinear
+                && c.max_vel_perp == o.max_vel_perp
+                && c.max_vel_angular == o.max_vel_angular
+                && c.max_accel_colinear == o.max_accel_colinear
+                && c.max_accel_perp == o.max_accel_perp
+                && c.max_accel_angular == o.max_accel_angular
+                && c.colinear_start_thresh == o.colinear_start_thresh
+        }
+        _ => false,
+    }
 }
 
 // Whether the command is another than the previous one, or there was none.
-#[tactic(auto, unfolding(crate::specs::Equality::fields_equal))]
-pub(crate) fn command_changed(prev_cmd: Option<ManeuverCommand>, cmd: ManeuverCommand) -> bool
+fn command_changed(prev_cmd: Option<ManeuverCommand>, cmd: ManeuverCommand) -> bool
     ensures { result ≡ command_changed prev_cmd cmd }
 {
-    prev_cmd != Some(cmd)
+    match prev_cmd {
+        None => true,
+        Some(prev) => !commands_equal(prev, cmd),
+    }
 }
 
 impl ControlContext {

@@ -6,7 +6,7 @@ use tick::command::ManeuverCommand;
 use tick::sample::Sample;
 
 /// `trajectory` and `prev_cmd` of the Rust's context.
-#[derive(Clone, Copy, PartialEq)]
+#[derive(Clone, Copy)]
 pub struct Memory {
     /// The trajectory, of which a tick sees one sample.
     pub held: Option<Sample>,

@@ -24,6 +24,7 @@ use Rattle.body_controller.specs.Sight.{sight_of}
 use Rattle.body_controller.specs.Plan.{plan_of}
 use Rattle.body_controller.specs.Steer.{steer_of}
 use Rattle.body_controller.specs.Finish.{finish_of}
+use Rattle.body_controller.specs.InTurn.{if_accepted, from_steer, from_plan}
 use Rattle.plain_drive.specs.Calls.{Call, sight, plan, steer, finish, Reply}
 use Rattle.plain_drive.specs.PlainDrive as Plain
 use Rattle.plain_drive.specs.EveryList.{sight_reply, plan_reply, steer_reply, finish_reply, Meets, Entry, Made, calls_of, replies_of, drive_of}
@@ -34,7 +35,7 @@ use Rattle.tick_block.specs.declared.TickBlock.{TickBlock}
 use Rattle.tick_block.specs.Block as Blocks
 use Rattle.pass.specs.declared.pass.Pass.{Pass}
 use Rattle.pass.specs.declared.pass.Pass.TheVariants.{Empty, Driving}
-use Rattle.pass.specs.Tick.{ended_by, ending_of, if_accepted, steered, planned, ticked_with, ticked}
+use Rattle.pass.specs.Tick.{ended_by, ending_of, ticked_with, ticked}
 use Rattle.pass.specs.Pass.{next_number, totals_of, Driven, driver_of, ticked_by, taken_with, refused_by, driven_with, driven}
 use Rattle.pass.specs.PlainPass.{mark_of, PlainPass, none, at, PlainDriven, reply_after, refusal_in, ended_at, at_finish, at_steer, at_plan, plain_tick, plain_ticks, plain_counts, refused_at, plain_take, plain_read, plain_pass, plain_marks, Passed, marks_of, StandsOn, EveryPass}
 use Rattle.pass.proofs.Read.{valid_read}
@@ -98,7 +99,7 @@ module _ (start : Start) (number : ℕ) (action : GateAction) where
       ending (Ok x) = refl
       ending (Err r) = refl
 
-  steer_agrees : (calls : List Call) (c : BodyController) (i : TickInput) → Behind start calls c → Agrees (shown (steered c i)) (at_steer start calls number (Some action) i)
+  steer_agrees : (calls : List Call) (c : BodyController) (i : TickInput) → Behind start calls c → Agrees (shown (from_steer c i)) (at_steer start calls number (Some action) i)
   steer_agrees calls c i b = go (steer_of c i.steer).answer refl
     where
       meets : Meets c (steer i.steer) (steer_reply (steer_of c i.steer).answer) (steer_of c i.steer).controller
@@ -109,14 +110,14 @@ module _ (start : Start) (number : ℕ) (action : GateAction) where
       go (Ok x) e = rw (sym (replied start calls c b (steer i.steer) _ _ meets) ∙ ap steer_reply e) (finish_agrees (steer i.steer ∷ calls) (steer_of c i.steer).controller i (after start calls c b (steer i.steer) _ _ meets))
       go (Err r) e = rw (sym (replied start calls c b (steer i.steer) _ _ meets) ∙ ap steer_reply e) (ended_agrees (steer i.steer ∷ calls) (refused r (steer_of c i.steer).controller) _ (after start calls c b (steer i.steer) _ _ meets) refl)
 
-  plan_agrees : (calls : List Call) (c : BodyController) (i : TickInput) → Behind start calls c → Agrees (shown (planned c i)) (at_plan start calls number (Some action) i)
+  plan_agrees : (calls : List Call) (c : BodyController) (i : TickInput) → Behind start calls c → Agrees (shown (from_plan c i)) (at_plan start calls number (Some action) i)
   plan_agrees calls c i b = go (plan_of c i.plan).answer refl
     where
       meets : Meets c (plan i.plan) (plan_reply (plan_of c i.plan).answer) (plan_of c i.plan).controller
       meets = (plan_of c i.plan, refl, refl, refl)
 
       go : (a : Result PlanAnswer Refusal) → (plan_of c i.plan).answer ≡ a
-          → Agrees (shown (if_accepted a (plan_of c i.plan).controller (λ (d : BodyController). steered d i))) (at_plan start calls number (Some action) i)
+          → Agrees (shown (if_accepted a (plan_of c i.plan).controller (λ (d : BodyController). from_steer d i))) (at_plan start calls number (Some action) i)
       go (Ok x) e = rw (sym (replied start calls c b (plan i.plan) _ _ meets) ∙ ap plan_reply e) (steer_agrees (plan i.plan ∷ calls) (plan_of c i.plan).controller i (after start calls c b (plan i.plan) _ _ meets))
       go (Err r) e = rw (sym (replied start calls c b (plan i.plan) _ _ meets) ∙ ap plan_reply e) (ended_agrees (plan i.plan ∷ calls) (refused r (plan_of c i.plan).controller) _ (after start calls c b (plan i.plan) _ _ meets) refl)
 

@@ -11,11 +11,8 @@ use Rattle.body_controller.specs.declared.BodyController.{BodyController}
 use Rattle.body_controller.specs.declared.Called.{Called}
 use Rattle.body_controller.specs.declared.finish.Finished.{Finished}
 use Rattle.body_controller.specs.declared.sight.Sighted.{Sighted}
-use Rattle.body_controller.specs.Controller.{refused}
 use Rattle.body_controller.specs.Sight.{sight_of}
-use Rattle.body_controller.specs.Plan.{plan_of}
-use Rattle.body_controller.specs.Steer.{steer_of}
-use Rattle.body_controller.specs.Finish.{finish_of}
+use Rattle.body_controller.specs.InTurn.{from_plan}
 use Rattle.line_text.specs.declared.line.TickLine.{TickLine}
 
 -- a tick's line, and the controller as the tick leaves it
@@ -40,20 +37,9 @@ ended_by last number action = record {
   controller = last.controller;
 }
 
--- the next call, where this one was accepted: the tick ends with the first that is turned away
-abbrev pub if_accepted : {A B : Type 0} → Result A Refusal → BodyController → (BodyController → Called B) → Called B
-if_accepted (Ok a) c next = next c
-if_accepted (Err r) c next = refused r c
-
-abbrev pub steered : BodyController → TickInput → Called Finished
-steered c i = let s = steer_of c i.steer in if_accepted s.answer s.controller (λ d. finish_of d i.finish)
-
-abbrev pub planned : BodyController → TickInput → Called Finished
-planned c i = let p = plan_of c i.plan in if_accepted p.answer p.controller (λ d. steered d i)
-
 -- c is the controller before sight, and d the one after it; where sight refuses, so is the block
 abbrev pub ticked_with : Result Sighted Refusal → BodyController → BodyController → TickInput → Result Ticked Refusal
-ticked_with (Ok s) c d i = Ok (ended_by (planned d i) c.tally.ticks s.action)
+ticked_with (Ok s) c d i = Ok (ended_by (from_plan d i) c.tally.ticks s.action)
 ticked_with (Err r) c d i = Err r
 
 abbrev pub ticked : BodyController → TickInput → Result Ticked Refusal

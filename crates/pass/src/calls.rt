@@ -1,7 +1,8 @@
 //! A tick: the calls sight, plan, steer and finish, up to the first that is turned away, and its line (docs/RULES.md,
 //! 'The five calls').
 ghost use Rattle.std.specs.Prelude.{◌≡◌, MatchResult, Ok, Err};
-ghost use Rattle.pass.specs.Tick.{ending_of, planned, ticked};
+ghost use Rattle.body_controller.specs.InTurn.{from_plan};
+ghost use Rattle.pass.specs.Tick.{ending_of, ticked};
 
 use body_controller::{BodyController, Called};
 use line_text::line::TickLine;
@@ -19,7 +20,7 @@ fn keep<A: Drop>(c: &mut BodyController, called: Called<A>) -> Result<A, Refusal
 
 // The calls behind sight: the wheel speeds, or the refusal that ended the tick.
 fn drive_on(c: &mut BodyController, i: &TickInput) -> Result<Vector4f, Refusal>
-    ensures { let last = planned c.old i.now in (result ≡ ending_of last.answer) × (c.new ≡ last.controller) }
+    ensures { let last = from_plan c.old i.now in (result ≡ ending_of last.answer) × (c.new ≡ last.controller) }
 {
     keep(c, c.plan(i.plan))?;
     keep(c, c.steer(i.steer))?;

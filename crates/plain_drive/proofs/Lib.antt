@@ -5,3 +5,4 @@ pub mod Watched
 pub mod EveryList
 pub mod Starts
 pub mod WorkedValues
+pub mod ControlUpdate

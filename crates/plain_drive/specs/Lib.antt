@@ -3,3 +3,5 @@ pub mod Calls
 pub mod PlainDrive
 pub mod EveryList
 pub mod WorkedValues
+pub mod Firmware
+pub mod ControlUpdate

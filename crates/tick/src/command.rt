@@ -7,7 +7,7 @@ use crate::refusal::Refusal;
 use linear::Vector3f;
 
 /// Drive to a pose. Speeds are in m/s and rad/s, accelerations in m/s² and rad/s².
-#[derive(Clone, Copy, PartialEq)]
+#[derive(Clone, Copy)]
 pub struct GlobalPosition {
     pub target_pose: Vector3f,
     pub max_linear_vel: f32,
@@ -17,7 +17,7 @@ pub struct GlobalPosition {
 }
 
 /// Follow a line at a heading. Angles are in rad, lengths in m; "colinear" is along the line, "perp" across it.
-#[derive(Clone, Copy, PartialEq)]
+#[derive(Clone, Copy)]
 pub struct HeadingLine {
     pub global_theta: f32,
     pub start_x: f32,
@@ -35,7 +35,7 @@ pub struct HeadingLine {
 }
 
 /// What the robot is to do.
-#[derive(Clone, Copy, PartialEq)]
+#[derive(Clone, Copy)]
 pub enum ManeuverCommand {
     Off,
     Brake,
