@@ -42,8 +42,9 @@ pub worked_out :
     × AlwaysGiven nan (of_bits binary32 0xbf80_0000)
     × AlwaysGiven (of_bits binary32 0xff80_0000) (of_bits binary32 0xbf80_0000)
 unfolding has_word fresh_current wheel_settings one_calculated response limited anti_jitter no_memory seconds_of magnitude clamp_between add sub mul div neg lt to_bits of_bits of_int fits size round
-worked_out =
-    (swept (of_bits binary32 0x43fa_0000) 0xbf80_0000 tt,
-    swept (of_bits binary32 0xc3fa_0000) 0x3f80_0000 tt,
-    swept nan 0xbf80_0000 tt,
-    swept (of_bits binary32 0xff80_0000) 0xbf80_0000 tt)
+worked_out = (
+  swept (of_bits binary32 0x43fa_0000) 0xbf80_0000 tt,
+  swept (of_bits binary32 0xc3fa_0000) 0x3f80_0000 tt,
+  swept nan 0xbf80_0000 tt,
+  swept (of_bits binary32 0xff80_0000) 0xbf80_0000 tt,
+)

@@ -36,7 +36,7 @@ EachWheelGets speed current b =
     × (speeds.z ≡ speed → currents.z ≡ current)
     × (speeds.w ≡ speed → currents.w ≡ current)
 
--- and each tick length makes a fresh brake that does
+-- so does the fresh brake that each tick length gives
 abbrev pub FreshBrakeGives : Float → Float → Type 0
 FreshBrakeGives speed current = (k : ℕ) → IsTickLength k → IsOkAnd (brake_of k) (EachWheelGets speed current)
 
@@ -79,7 +79,7 @@ pub record WorkedValues : Type 0 where
   -- `hypotf` of 3 and 4 is 5, of infinity and NaN infinity
   pub hypot_3_4 : hypotenuse (float 0x4040_0000) (float 0x4080_0000) ≡ float 0x40a0_0000
   pub hypot_infinity : hypotenuse (float 0x7f80_0000) (float 0x7fc0_0000) ≡ float 0x7f80_0000
-  -- a fresh brake gives -1.0 at 500.0, 1.0 at -500.0, and -1.0 at NaN and at -infinity
+  -- a fresh brake gives -1.0 at 500.0, 1.0 at -500.0, and -1.0 at NaN and at -infinity, at each wheel and every tick length
   pub brake_500 : FreshBrakeGives (float 0x43fa_0000) (float 0xbf80_0000)
   pub brake_minus_500 : FreshBrakeGives (float 0xc3fa_0000) (float 0x3f80_0000)
   pub brake_nan : FreshBrakeGives nan (float 0xbf80_0000)
