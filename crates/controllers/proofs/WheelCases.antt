@@ -23,9 +23,9 @@ fresh_current k speed = (one_calculated wheel_settings no_memory zero_float spee
 abbrev pub AlwaysGiven : Float → Float → Type 0
 AlwaysGiven speed current = (k : ℕ) → IsTickLength k → fresh_current k speed ≡ current
 
--- the current is the float of this word
+-- the current is a float of binary32, and this is its word
 unfoldable has_word : Float → ℕ → ℕ → Bool
-has_word speed word k = eqb (to_bits binary32 (fresh_current k speed)) word && fits binary32 (fresh_current k speed)
+has_word speed word k = let i = fresh_current k speed in eqb (to_bits binary32 i) word && fits binary32 i
 
 swept : (speed : Float) (word : ℕ) → T (every_to (has_word speed word) 64) → AlwaysGiven speed (of_bits binary32 word)
 unfolding has_word

@@ -8,8 +8,7 @@ use Rattle.controllers.specs.Axes.{answers}
 use Rattle.controllers.specs.PidAxes.{calculated, joined, new_memory}
 use Rattle.controllers.specs.Brake.{new_brake, brake_of, computed}
 use Rattle.controllers.proofs.BrakeCases as Brake
-use Rattle.controllers.proofs.WheelCases.{fresh_current, AlwaysGiven}
-use Rattle.controllers.proofs.WheelCases as Wheel
+use Rattle.controllers.proofs.WheelCases.{fresh_current, AlwaysGiven, worked_out}
 use Rattle.controllers.specs.EncoderLag.{duration_to_secs, lag_of}
 use Rattle.controllers.proofs.EncoderCases as Lag
 use Rattle.vision.proofs.Cases as Gate
@@ -62,10 +61,10 @@ worked_values = record {
   remainder_past_pi = Remainder.past_pi;
   hypot_3_4 = Hypot.hypotenuse_three_four;
   hypot_infinity = Hypot.hypotenuse_infinity_nan;
-  brake_500 = fresh_brake _ _ (Wheel.worked_out.0);
-  brake_minus_500 = fresh_brake _ _ (Wheel.worked_out.1);
-  brake_nan = fresh_brake _ _ (Wheel.worked_out.2);
-  brake_minus_infinity = fresh_brake _ _ (Wheel.worked_out.3);
+  brake_500 = fresh_brake _ _ worked_out.0;
+  brake_minus_500 = fresh_brake _ _ worked_out.1;
+  brake_nan = fresh_brake _ _ worked_out.2;
+  brake_minus_infinity = fresh_brake _ _ worked_out.3;
   twist_10 = Limits.ten_unclamped;
   twist_nan = (Limits.nan_marked).0;
 }
