@@ -1,43 +1,30 @@
 -- The worked values hold: each crate computed its own.
-use Rattle.std.proofs.Common.{◌≡◌, ℕ, Bool, true, false, ◌&&◌, T, eqb, refl, eqb-true}
+use Rattle.std.proofs.Common.{◌≡◌, ◌∙◌, ap, refl, Float, IsOkAnd}
 use Rattle.ieee754.proofs.RootCases as Root
 use Rattle.ieee754.proofs.RemainderCases as Remainder
 use Rattle.ieee754.proofs.HypotCases as Hypot
-use Rattle.tick.specs.TickLength.{is_tick_length}
-use Rattle.tick.proofs.TickLengthCases as Length
-use Rattle.controllers.specs.Brake.{brake_of}
-use Rattle.controllers.proofs.WheelCases as Wheel
-use Rattle.controllers.specs.EncoderLag.{lag_of}
+use Rattle.linear.specs.Vector.{vector4_of}
+use Rattle.controllers.specs.Axes.{answers}
+use Rattle.controllers.specs.PidAxes.{calculated, joined, new_memory}
+use Rattle.controllers.specs.Brake.{new_brake, brake_of, computed}
+use Rattle.controllers.proofs.BrakeCases as Brake
+use Rattle.controllers.proofs.WheelCases.{fresh_current, AlwaysGiven, worked_out}
+use Rattle.controllers.specs.EncoderLag.{duration_to_secs, lag_of}
 use Rattle.controllers.proofs.EncoderCases as Lag
 use Rattle.vision.proofs.Cases as Gate
 use Rattle.control_context.proofs.ClampedCases as Limits
-use Rattle.plain_drive.specs.WorkedValues.{float, current_bits, NumberFor, WorkedValues}
+use Rattle.plain_drive.specs.WorkedValues.{FreshBrakeGives, NumberFor, WorkedValues}
 
--- the brake's four, of one test
-pub record Currents (k : ℕ) : Type 0 where
-  pub plus : current_bits k (float 0x43fa_0000) ≡ 0xbf80_0000
-  pub minus : current_bits k (float 0xc3fa_0000) ≡ 0x3f80_0000
-  pub no_number : current_bits k (float 0x7fc0_0000) ≡ 0xbf80_0000
-  pub infinite : current_bits k (float 0xff80_0000) ≡ 0xbf80_0000
+-- each wheel of a fresh brake gets what one wheel does by itself
+fresh_brake : (speed current : Float) → AlwaysGiven speed current → FreshBrakeGives speed current
+unfolding computed new_brake calculated joined answers new_memory vector4_of fresh_current
+fresh_brake speed current given k h =
+    let at : (s : Float) → s ≡ speed → fresh_current k s ≡ current = λ s e. ap (fresh_current k) e ∙ given k h in
+    rw (Brake.made k h) (λ v. (at v.x, at v.y, at v.z, at v.w))
 
--- four tests at once, each by itself
-apart : (a b c d : Bool) → T (a && b && c && d) → (a ≡ true) × (b ≡ true) × (c ≡ true) × (d ≡ true)
-apart true true true true h = (refl, refl, refl, refl)
-apart true true true false h = absurd h
-apart true true false d h = absurd h
-apart true false c d h = absurd h
-apart false b c d h = absurd h
-
-currents : (k : ℕ) → is_tick_length k ≡ true → Currents k
-unfolding Wheel.as_worked_out Wheel.fresh_current
-currents k h =
-    let each = apart (eqb (current_bits k (float 0x43fa_0000)) 0xbf80_0000) (eqb (current_bits k (float 0xc3fa_0000)) 0x3f80_0000) (eqb (current_bits k (float 0x7fc0_0000)) 0xbf80_0000) (eqb (current_bits k (float 0xff80_0000)) 0xbf80_0000) (Wheel.fresh_brake k h) in
-    record {
-      plus = eqb-true (current_bits k (float 0x43fa_0000)) 0xbf80_0000 each.0;
-      minus = eqb-true (current_bits k (float 0xc3fa_0000)) 0x3f80_0000 each.1;
-      no_number = eqb-true (current_bits k (float 0x7fc0_0000)) 0xbf80_0000 each.2;
-      infinite = eqb-true (current_bits k (float 0xff80_0000)) 0xbf80_0000 each.3;
-    }
+lag : IsOkAnd (lag_of 4) (λ l. (l.dt ≡ duration_to_secs 976) × (l.n_steps ≡ 10))
+unfolding lag_of
+lag = (Lag.four_dt, Lag.four_steps)
 
 refused_0 : NumberFor 0 1
 unfolding brake_of lag_of
@@ -61,8 +48,7 @@ worked_values = record {
   k_65 = refused_65;
   k_1 = accepted_1;
   k_64 = accepted_64;
-  lag_micros = Length.four_micros;
-  lag_steps = Lag.four_steps;
+  lag_4 = lag;
   four_512 = Gate.four_512;
   four_513 = Gate.four_513;
   three_682 = Gate.three_682;
@@ -75,10 +61,10 @@ worked_values = record {
   remainder_past_pi = Remainder.past_pi;
   hypot_3_4 = Hypot.hypotenuse_three_four;
   hypot_infinity = Hypot.hypotenuse_infinity_nan;
-  brake_500 = λ k h. (currents k h).plus;
-  brake_minus_500 = λ k h. (currents k h).minus;
-  brake_nan = λ k h. (currents k h).no_number;
-  brake_minus_infinity = λ k h. (currents k h).infinite;
+  brake_500 = fresh_brake _ _ worked_out.0;
+  brake_minus_500 = fresh_brake _ _ worked_out.1;
+  brake_nan = fresh_brake _ _ worked_out.2;
+  brake_minus_infinity = fresh_brake _ _ worked_out.3;
   twist_10 = Limits.ten_unclamped;
   twist_nan = (Limits.nan_marked).0;
 }

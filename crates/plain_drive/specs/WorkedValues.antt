@@ -1,16 +1,17 @@
 -- Worked values of the rules, each shown of the definition itself (docs/RULES.md, 'Worked values').
-use Rattle.std.specs.Prelude.{◌≡◌, ℕ, Bool, true, false, Float}
+use Rattle.std.specs.Prelude.{◌≡◌, ℕ, Bool, true, false, Float, IsOkAnd}
 use Rattle.std.specs.Float.{nan, binary32}
-use Rattle.std.specs.Float.Ieee.{of_bits, to_bits}
+use Rattle.std.specs.Float.Ieee.{of_bits}
 use Rattle.ieee754.specs.Root.{square_root}
 use Rattle.ieee754.specs.Remainder.{remainder_by, tau}
 use Rattle.ieee754.specs.Hypot.{hypotenuse}
 use Rattle.linear.specs.declared.Vector3f.{Vector3f}
+use Rattle.linear.specs.declared.Vector4f.{Vector4f}
 use Rattle.linear.specs.Vector.{zero_float}
-use Rattle.tick.specs.TickLength.{is_tick_length, seconds_of, micros_of}
-use Rattle.controllers.specs.Axis.{one_calculated, no_memory}
-use Rattle.controllers.specs.Brake as Brake
-use Rattle.controllers.specs.EncoderLag as Lag
+use Rattle.tick.specs.TickLength.{IsTickLength, seconds_of}
+use Rattle.controllers.specs.declared.active_brake.ActiveBrakeController.{ActiveBrakeController}
+use Rattle.controllers.specs.Brake.{brake_of, computed}
+use Rattle.controllers.specs.EncoderLag.{duration_to_secs, lag_of}
 use Rattle.vision.specs.Vision.{active}
 use Rattle.vision.specs.Since.{clock_since}
 use Rattle.control_context.specs.Clamped.{twist_clamped}
@@ -25,9 +26,19 @@ float w = of_bits binary32 w
 abbrev pub active_at : ℕ → ℕ → Bool
 active_at k m = active (clock_since zero_float (seconds_of k) m)
 
--- the bits of the current that a fresh brake gives a wheel of this speed
-abbrev pub current_bits : ℕ → Float → ℕ
-current_bits k speed = to_bits binary32 (one_calculated Brake.wheel_settings no_memory zero_float speed (seconds_of k)).output
+-- the brake gives a wheel of this speed this current, whatever the other three speeds are
+abbrev pub EachWheelGets : Float → Float → ActiveBrakeController → Type 0
+EachWheelGets speed current b =
+    (speeds : Vector4f)
+    → let currents = (computed b speeds).currents in
+    (speeds.x ≡ speed → currents.x ≡ current)
+    × (speeds.y ≡ speed → currents.y ≡ current)
+    × (speeds.z ≡ speed → currents.z ≡ current)
+    × (speeds.w ≡ speed → currents.w ≡ current)
+
+-- so does the fresh brake that each tick length gives
+abbrev pub FreshBrakeGives : Float → Float → Type 0
+FreshBrakeGives speed current = (k : ℕ) → IsTickLength k → IsOkAnd (brake_of k) (EachWheelGets speed current)
 
 -- a twist of 10.0 along x and y, and of 5.0·TAU
 abbrev pub at_bounds : Vector3f
@@ -39,7 +50,7 @@ nan_twist = record { x = nan; y = zero_float; z = zero_float }
 
 -- the number for a k: of a controller, of a brake and of a lag
 abbrev pub NumberFor : ℕ → ℕ → Type 0
-NumberFor k n = (number_of (new_of k) ≡ n) × (number_of (Brake.brake_of k) ≡ n) × (number_of (Lag.lag_of k) ≡ n)
+NumberFor k n = (number_of (new_of k) ≡ n) × (number_of (brake_of k) ≡ n) × (number_of (lag_of k) ≡ n)
 
 pub record WorkedValues : Type 0 where
   -- k 0 and 65: refused with 1
@@ -49,8 +60,7 @@ pub record WorkedValues : Type 0 where
   pub k_1 : NumberFor 1 0
   pub k_64 : NumberFor 64 0
   -- k 4: the lag's tick is 976 µs, and it has 10 steps
-  pub lag_micros : micros_of 4 ≡ 976
-  pub lag_steps : (Lag.new_lag 4).n_steps ≡ 10
+  pub lag_4 : IsOkAnd (lag_of 4) (λ l. (l.dt ≡ duration_to_secs 976) × (l.n_steps ≡ 10))
   -- k 4: active after 512 ticks, not after 513
   pub four_512 : active_at 4 512 ≡ true
   pub four_513 : active_at 4 513 ≡ false
@@ -69,12 +79,11 @@ pub record WorkedValues : Type 0 where
   -- `hypotf` of 3 and 4 is 5, of infinity and NaN infinity
   pub hypot_3_4 : hypotenuse (float 0x4040_0000) (float 0x4080_0000) ≡ float 0x40a0_0000
   pub hypot_infinity : hypotenuse (float 0x7f80_0000) (float 0x7fc0_0000) ≡ float 0x7f80_0000
-  -- a fresh brake gives -1.0 at 500.0 and 1.0 at -500.0, at every tick length
-  pub brake_500 : (k : ℕ) → is_tick_length k ≡ true → current_bits k (float 0x43fa_0000) ≡ 0xbf80_0000
-  pub brake_minus_500 : (k : ℕ) → is_tick_length k ≡ true → current_bits k (float 0xc3fa_0000) ≡ 0x3f80_0000
-  -- and -1.0 at NaN and at -infinity
-  pub brake_nan : (k : ℕ) → is_tick_length k ≡ true → current_bits k (float 0x7fc0_0000) ≡ 0xbf80_0000
-  pub brake_minus_infinity : (k : ℕ) → is_tick_length k ≡ true → current_bits k (float 0xff80_0000) ≡ 0xbf80_0000
+  -- a fresh brake gives -1.0 at 500.0, 1.0 at -500.0, and -1.0 at NaN and at -infinity, at each wheel and every tick length
+  pub brake_500 : FreshBrakeGives (float 0x43fa_0000) (float 0xbf80_0000)
+  pub brake_minus_500 : FreshBrakeGives (float 0xc3fa_0000) (float 0x3f80_0000)
+  pub brake_nan : FreshBrakeGives nan (float 0xbf80_0000)
+  pub brake_minus_infinity : FreshBrakeGives (float 0xff80_0000) (float 0xbf80_0000)
   -- a twist at its bounds is unclamped; NaN stays NaN and is marked clamped
   pub twist_10 : twist_clamped at_bounds ≡ record { value = at_bounds; clamped = false }
   pub twist_nan : twist_clamped nan_twist ≡ record { value = nan_twist; clamped = true }
