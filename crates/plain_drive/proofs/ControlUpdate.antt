@@ -70,7 +70,7 @@ use Rattle.plain_drive.specs.Firmware as Rust
 use Rattle.plain_drive.specs.Firmware.{Firmware, Maneuvered}
 use Rattle.std.specs.Prelude.{unwrap_or}
 use Rattle.plain_drive.specs.ControlUpdate as Update
-use Rattle.plain_drive.specs.ControlUpdate.{Updated, seed_in, twist_in, Does, CallsAreControlUpdate, control_update, finished_as, firmware_in, firmware_of, firmware_new, firmware_reset}
+use Rattle.plain_drive.specs.ControlUpdate.{Updated, seed_in, twist_in, DoesControlUpdate, CallsAreControlUpdate, control_update, finished_as, firmware_in, firmware_of, firmware_new, firmware_reset}
 
 -- ---- new and reset
 
@@ -440,13 +440,13 @@ module _ (c : BodyController) (i : TickInput) (cmd : ManeuverCommand) (same : i.
   unfolding sight_of
   sight_is t full = rw (ap is_sight t, full)
 
-  pub does : c.turn ≡ Turns.Sight → is_full c.tally ≡ false → Does c i (control_update (dt_of c.context.start) (firmware_of c) cmd i)
+  pub does : c.turn ≡ Turns.Sight → is_full c.tally ≡ false → DoesControlUpdate c i (control_update (dt_of c.context.start) (firmware_of c) cmd i)
   unfolding control_update
   does t full =
       let a = (seen c.context (sighting_of i.sight.vision_update i.sight.vision_pose_meas) i.sight.predicted_state).action in
       let G = goes (sight_answer a i.sight) i.plan.estimator_failed in
       let S = sight_is t full in
-      subst (λ (u : Rust.Asked). Does c i (rust_behind u i.plan.estimator_failed)) (sym (asks c.context c.outputs i.sight))
+      subst (λ (u : Rust.Asked). DoesControlUpdate c i (rust_behind u i.plan.estimator_failed)) (sym (asks c.context c.outputs i.sight))
       (record {
         sighted = ap (λ (s : Called Sighted). s.answer) S ∙ ap (λ (x : Sighted). Ok x) G.asked;
         seed = ap (λ (s : Called Sighted). seed_in (plan_of s.controller i.plan).answer) S ∙ ap (λ (p : Called PlanAnswer). seed_in p.answer) plan_is ∙ G.seed;

@@ -182,7 +182,7 @@ abbrev pub after_plan : BodyController → TickInput → BodyController
 after_plan c i = (plan_of (after_sight c i) i.plan).controller
 
 -- a tick's calls ask, keep and answer what `control_update` does, and the next tick's sight is next
-pub record Does (c : BodyController) (i : TickInput) (to : Updated) : Type 0 where
+pub record DoesControlUpdate (c : BodyController) (i : TickInput) (to : Updated) : Type 0 where
   pub sighted : (sight_of c i.sight).answer ≡ Ok to.sighted
   pub seed : seed_in (plan_of (after_sight c i) i.plan).answer ≡ to.seed
   pub fric_twist : twist_in (steer_of (after_plan c i) i.steer).answer ≡ to.fric_twist
@@ -198,7 +198,7 @@ CallsAreControlUpdate =
     → is_full c.tally ≡ false
     → command_from i.plan.mode i.plan.words ≡ Ok cmd
     → i.steer.wheel_vel_meas ≡ i.sight.wheel_vel_meas
-    → Does c i (control_update (dt_of c.context.start) (firmware_of c) cmd i)
+    → DoesControlUpdate c i (control_update (dt_of c.context.start) (firmware_of c) cmd i)
 
 -- a new controller is the Rust's, and so is what a reset leaves
 abbrev pub NewIsFirmwareNew : Type 0
