@@ -31,7 +31,7 @@ passed_on p block rest bs ls m k = go (is_refused (driven p block).line)
     go true = first
     go false = k first
 
-passed : (n : ℕ) (p : Pass) (bytes : List ℕ) (bs : List (List ℕ)) (ls : List Line) → Passed bs ls p
+pub passed : (n : ℕ) (p : Pass) (bytes : List ℕ) (bs : List (List ℕ)) (ls : List Line) → Passed bs ls p
     → Passed (reverse_aux (batch_of n p bytes).blocks bs) (reverse_aux (batch_of n p bytes).lines ls) (batch_of n p bytes).pass
 unfolding batch_of
 passed zero p bytes bs ls m = m

@@ -64,7 +64,7 @@ abbrev ending : TrackingDivergenceState → RecoveryAnswer → Bool
 ending before r = is_recovering before && not (is_recovering r.state)
 
 -- recovery resets exactly where it ends
-recovery_ends : (before : TrackingDivergenceState) (held : Option Vector6f) (estimate : Vector6f) (w : Vector4f)
+pub recovery_ends : (before : TrackingDivergenceState) (held : Option Vector6f) (estimate : Vector6f) (w : Vector4f)
     → ending before (recovery before held estimate w) ≡ (recovery before held estimate w).reset
 unfolding recovery
 recovery_ends Normal held estimate w = go (tracking_error_exceeded held estimate)
