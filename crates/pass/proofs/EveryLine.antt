@@ -34,6 +34,7 @@ use Rattle.body_controller.specs.declared.Called.{Called}
 use Rattle.body_controller.specs.declared.Turn.TheVariants as Turns
 use Rattle.body_controller.specs.declared.sight.Sighted.{Sighted}
 use Rattle.body_controller.specs.declared.steer.Steered.{Steered}
+use Rattle.body_controller.specs.InTurn.{if_accepted, from_steer, from_plan}
 use Rattle.body_controller.specs.Turn.{is_sight, is_plan, steered_at}
 use Rattle.body_controller.specs.Controller as Controller
 use Rattle.body_controller.specs.Controller.{started}
@@ -55,7 +56,7 @@ use Rattle.tick_block.specs.Block.{block_read}
 use Rattle.tick_block.specs.Order.{order_tested}
 use Rattle.pass.specs.declared.pass.Pass.{Pass}
 use Rattle.pass.specs.declared.pass.Pass.TheVariants.{Empty, Driving}
-use Rattle.pass.specs.Tick.{ended_by, if_accepted, steered, planned, ticked_with, ticked}
+use Rattle.pass.specs.Tick.{ended_by, ticked_with, ticked}
 use Rattle.pass.specs.Pass.{driver_of, ticked_by, taken_with, refused_by, driven_with, driven}
 use Rattle.pass.specs.PlainPass.{Passed}
 use Rattle.pass.specs.EveryLine.{was_recovering, seen_within, EachTick, ActiveIsSeen, LinesHold, EveryLine, EveryBatchLine, DrivesWith, OneStart}
@@ -174,11 +175,11 @@ module _ (P Q : BodyController → Type 0) (i : TickInput) (closes : (c : BodyCo
   accepted_or (Ok x) c next q n = n
   accepted_or (Err r) c next q n = q
 
-  steered_ends : (c : BodyController) → P c → Q (steered c i).controller
+  steered_ends : (c : BodyController) → P c → Q (from_steer c i).controller
   steered_ends c p = accepted_or (steer_of c i.steer).answer _ (λ d. finish_of d i.finish) (steers c p) (finishes _ (steers c p))
 
-  planned_ends : (c : BodyController) → P c → Q (planned c i).controller
-  planned_ends c p = accepted_or (plan_of c i.plan).answer _ (λ d. steered d i) (closes _ (plans c p)) (steered_ends _ (plans c p))
+  planned_ends : (c : BodyController) → P c → Q (from_plan c i).controller
+  planned_ends c p = accepted_or (plan_of c i.plan).answer _ (λ d. from_steer d i) (closes _ (plans c p)) (steered_ends _ (plans c p))
 
 -- what sight left is read up to steer, which may end the recovery that the tick began with
 module _ (start : Start) (before : Bool) (seen : ℕ → Bool) where
@@ -205,7 +206,7 @@ module _ (start : Start) (before : Bool) (seen : ℕ → Bool) where
       reads_as start _ _ _ (λ n. rw (finish_keeps c i, and-not_self (recovering_in c)) refl)
       (within_tick start _ c r (finish i) _ _ (finish_of c i, refl, refl, refl) refl (quiet (λ f. accepted) (λ f. (refl, refl)) (finish_of c i).answer))
 
-  tick_closes : (i : TickInput) (c : BodyController) → Open c → Closing (planned c i).controller
+  tick_closes : (i : TickInput) (c : BodyController) → Open c → Closing (from_plan c i).controller
   tick_closes i = planned_ends Open Closing i (λ c o. reads_as start _ _ c (λ n. rw (o.1, and-not_self before) refl) o.0) (plan_open i.plan) (steer_closes i.steer) (finish_closes i.finish)
 
 -- ---- the lines
@@ -241,14 +242,14 @@ refused_stands r (Driving c) lines s = (s.0, record { reads = s.1.reads; before 
 module _ (start : Start) (lines : List Line) (c : BodyController) (told : Told start lines c) (i : TickInput) where
   -- a tick that took this outcome, from the controller after sight
   ended_told : (a : GateAction) (d : BodyController) → recovering_in d ≡ recovering_in c → Reads start (λ n. takes a || (leb 1 n && seen_within (n - 1) lines)) d
-      → (let t = ended_by (planned d i) c.tally.ticks a in Told start (Tick t.line ∷ lines) t.controller)
+      → (let t = ended_by (from_plan d i) c.tally.ticks a in Told start (Tick t.line ∷ lines) t.controller)
   unfolding seen_within was_recovering
   ended_told a d e r =
       let closed = tick_closes start (was_recovering lines) _ i d (r, e ∙ sym told.before) in
       record {
         reads = closed;
         before = refl;
-        right = more_ticks _ _ lines (λ t s. let same : (ended_by (planned d i) c.tally.ticks a).line ≡ t = cc in rw (← same) (active_is start _ _ closed)) told.right;
+        right = more_ticks _ _ lines (λ t s. let same : (ended_by (from_plan d i) c.tally.ticks a).line ≡ t = cc in rw (← same) (active_is start _ _ closed)) told.right;
       }
 
   tick_stands : (p : Pass) → Stands lines p → Stands ((driven_with (ticked c i) p).line ∷ lines) (driven_with (ticked c i) p).pass
