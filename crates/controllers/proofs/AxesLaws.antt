@@ -14,7 +14,7 @@ use Rattle.controllers.specs.Axis.{AxisAnswer, anti_jitter, limited, no_memory}
 use Rattle.controllers.specs.Axes.{Ask, calculate, calculate_with_derivative, answer, asks, asks_with_derivative, answers, ask, reset}
 use Rattle.controllers.specs.PidAxes.{PidAnswer, joined, calculated, calculated_with_derivative, new_memory, answered, called, after_calls}
 use Rattle.controllers.specs.PidLaws.{HasEntries, own_ask, AxesRememberApart, AxesAnswerApart, EnclosesZero, Bounded, IntegralIsBounded, NewIntegralIsBounded, Inside, OutputsAreLimited, without_limits, NanIsLowerLimit, ResetIsNew, error_of, gains_only, OutputIsScaledBelow, OutputStaysFrom}
-use Rattle.controllers.proofs.Entries.{ask_at, asks_length, derivative_at, derivatives_length}
+use Rattle.controllers.proofs.Entries.{answer_own, ask_at, asks_length, derivative_at, derivatives_length}
 use Rattle.controllers.proofs.AxisLaws.{answer_bounded, answer_inside, answer_limited, answer_gains, anti_jitter_below, anti_jitter_from}
 use Rattle.ieee754.proofs.ClampLaws.{clamp_nan}
 
@@ -41,16 +41,7 @@ own_at n (calculate_with_derivative s v d dt) i h lt =
     slice_get-get_or (asks_with_derivative s v d dt) i none (omega (arith, derivatives_length s v d dt (h.1 ∙ sym h.0) (h.2 ∙ sym h.0)))
     ∙ ap Some (derivative_at s v d dt i none zero_float zero_float zero_float (omega arith) (omega arith) (omega arith))
 
--- and its answer is the axis's
-answer_own : (parts : List (Ask Float)) (cs : List PidSettings) (ms : List AxisMemory) (i : ℕ) (p : Ask Float) (c : PidSettings) (a : AxisMemory)
-    → slice_get parts i ≡ Some p → slice_get cs i ≡ Some c → slice_get ms i ≡ Some a → slice_get (answers parts cs ms) i ≡ Some (answer p c a)
-unfolding answers
-answer_own [] cs ms i p c a e f g = absurd (none-some p e)
-answer_own (q ∷ parts) [] ms i p c a e f g = absurd (none-some c f)
-answer_own (q ∷ parts) (d ∷ cs) [] i p c a e f g = absurd (none-some a g)
-answer_own (q ∷ parts) (d ∷ cs) (b ∷ ms) zero p c a e f g = cc
-answer_own (q ∷ parts) (d ∷ cs) (b ∷ ms) (suc i) p c a e f g = answer_own parts cs ms i p c a e f g
-
+-- and the controller's answer at i is the axis's to it
 told : (n : ℕ) (asked : Ask (List Float)) (cs : List PidSettings) (m : PidMemory n) (i : ℕ) (c : PidSettings) (a : AxisMemory)
     → HasEntries n (ask asked) → i < n → slice_get cs i ≡ Some c → slice_get m.axes i ≡ Some a
     → (slice_get (answered asked cs m).output i ≡ Some (answer (own_ask i asked) c a).output)
@@ -63,15 +54,13 @@ told n asked cs m i c a h lt f g = rw (answered_joined asked cs m) (side (λ b. 
 
 -- ---- the axes do not touch each other
 
-forgotten : (n i : ℕ) → i < n → slice_get (replicate n no_memory) i ≡ Some no_memory
-forgotten n i lt = slice_get-get_or (replicate n no_memory) i no_memory (omega (arith, length-replicate n no_memory)) ∙ ap Some (get_or-replicate n i no_memory no_memory lt)
-
 pub remember_apart : AxesRememberApart
 unfolding new_memory
 remember_apart n [] cs m i c a h lt f g = g
 remember_apart n (ask asked ∷ calls) cs m i c a h lt f g =
     (told n asked cs (after_calls calls cs m) i c _ (All-head (HasEntries n) (ask asked) calls h) lt f (remember_apart n calls cs m i c a (All-tail (HasEntries n) (ask asked) calls h) lt f g)).1
-remember_apart n (reset ∷ calls) cs m i c a h lt f g = forgotten n i lt
+remember_apart n (reset ∷ calls) cs m i c a h lt f g =
+    slice_get-get_or (replicate n no_memory) i no_memory (omega (arith, length-replicate n no_memory)) ∙ ap Some (get_or-replicate n i no_memory no_memory lt)
 
 pub answer_apart : AxesAnswerApart
 answer_apart n asked calls cs m i c a h lt f g =

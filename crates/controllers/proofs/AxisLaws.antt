@@ -32,15 +32,15 @@ answer_bounded p c m z = go p
 -- ---- the output
 
 -- with limits, every output is within them
-limited-inside : (l : Option (Float × Float)) (out : Float) → Ordered l → Inside l (limited l out)
+limited_inside : (l : Option (Float × Float)) (out : Float) → Ordered l → Inside l (limited l out)
 unfolding limited
-limited-inside None out h = tt
-limited-inside (Some w) out h = clamp_between_lem out w.0 w.1 h
+limited_inside None out h = tt
+limited_inside (Some w) out h = clamp_between_lem out w.0 w.1 h
 
 pub answer_inside : (p : Ask Float) (c : PidSettings) (m : AxisMemory) → Ordered c.output_limits → Inside c.output_limits (answer p c m).output
 unfolding one_calculated one_with_derivative response
-answer_inside (calculate s v dt) c m h = limited-inside c.output_limits _ h
-answer_inside (calculate_with_derivative s v d dt) c m h = limited-inside c.output_limits _ h
+answer_inside (calculate s v dt) c m h = limited_inside c.output_limits _ h
+answer_inside (calculate_with_derivative s v d dt) c m h = limited_inside c.output_limits _ h
 
 -- limits come last
 pub answer_limited : (p : Ask Float) (c : PidSettings) (m : AxisMemory) → (answer p c m).output ≡ limited c.output_limits (answer p (without_limits c) m).output

@@ -1,7 +1,8 @@
 -- The entries and the length of the lists that the definitions of specs/Axes.antt make.
 use Rattle.std.proofs.Common.{◌≡◌, ◌∙◌, sym, ℕ, zero, suc, ◌<◌, List, [], ◌∷◌, length, get_or, refl, ap, arith, not-suc-le-zero, le_of_suc-le-suc}
 use lib.Ieee.{Float, nan}
-use Rattle.std.specs.Prelude.{None}
+use Rattle.std.specs.Prelude.{None, Some, slice_get}
+use Rattle.std.proofs.lemmas.Option.{none-some, slice_get-get_or, get_or_from_slice_get}
 use Rattle.controllers.specs.declared.pid.PidSettings.{PidSettings}
 use Rattle.controllers.specs.declared.pid.AxisMemory.{AxisMemory}
 use Rattle.controllers.specs.declared.pid.PidMemory.{PidMemory}
@@ -10,14 +11,20 @@ use Rattle.controllers.specs.Axes.{Ask, calculate, calculate_with_derivative, an
 use Rattle.controllers.specs.PidAxes.{joined, calculated, calculated_with_derivative}
 use Rattle.controllers.proofs.Mapped.{mapped}
 
+-- the answer at i is that of the axis i
+pub answer_own : (parts : List (Ask Float)) (cs : List PidSettings) (ms : List AxisMemory) (i : ℕ) (p : Ask Float) (c : PidSettings) (a : AxisMemory)
+    → slice_get parts i ≡ Some p → slice_get cs i ≡ Some c → slice_get ms i ≡ Some a → slice_get (answers parts cs ms) i ≡ Some (answer p c a)
+unfolding answers
+answer_own [] cs ms i p c a e f g = absurd (none-some p e)
+answer_own (q ∷ parts) [] ms i p c a e f g = absurd (none-some c f)
+answer_own (q ∷ parts) (d ∷ cs) [] i p c a e f g = absurd (none-some a g)
+answer_own (q ∷ parts) (d ∷ cs) (b ∷ ms) zero p c a e f g = cc
+answer_own (q ∷ parts) (d ∷ cs) (b ∷ ms) (suc i) p c a e f g = answer_own parts cs ms i p c a e f g
+
 answer_at : (parts : List (Ask Float)) (cs : List PidSettings) (ms : List AxisMemory) (i : ℕ) (part : Ask Float) (c : PidSettings) (m : AxisMemory) (d : AxisAnswer)
     → i < length parts → i < length cs → i < length ms → get_or (answers parts cs ms) i d ≡ answer (get_or parts i part) (get_or cs i c) (get_or ms i m)
-unfolding answers
-answer_at [] cs ms i part c m d h k l = absurd (not-suc-le-zero h)
-answer_at (a ∷ parts) [] ms i part c m d h k l = absurd (not-suc-le-zero k)
-answer_at (a ∷ parts) (b ∷ cs) [] i part c m d h k l = absurd (not-suc-le-zero l)
-answer_at (a ∷ parts) (b ∷ cs) (o ∷ ms) zero part c m d h k l = refl
-answer_at (a ∷ parts) (b ∷ cs) (o ∷ ms) (suc i) part c m d h k l = answer_at parts cs ms i part c m d (le_of_suc-le-suc h) (le_of_suc-le-suc k) (le_of_suc-le-suc l)
+answer_at parts cs ms i part c m d h k l =
+    get_or_from_slice_get (answers parts cs ms) i _ d (answer_own parts cs ms i _ _ _ (slice_get-get_or parts i part h) (slice_get-get_or cs i c k) (slice_get-get_or ms i m l))
 
 answers_length : (parts : List (Ask Float)) (cs : List PidSettings) (ms : List AxisMemory) → length parts ≡ length ms → length cs ≡ length ms → length (answers parts cs ms) ≡ length ms
 unfolding answers

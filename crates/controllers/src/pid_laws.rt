@@ -1,4 +1,4 @@
-//! What is proved of controllers over calls: functions that do nothing, for their clauses.
+//! What is proved of the PID of N axes over calls: functions that do nothing, for their clauses.
 
 ghost use Rattle.controllers.specs.PidLaws.{AxesRememberApart, AxesAnswerApart, IntegralIsBounded, NewIntegralIsBounded};
 ghost use Rattle.controllers.specs.PidLaws.{OutputsAreLimited, NanIsLowerLimit, ResetIsNew};
