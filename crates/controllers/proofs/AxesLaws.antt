@@ -13,7 +13,7 @@ use Rattle.controllers.specs.declared.pid.PidMemory.{PidMemory}
 use Rattle.controllers.specs.Axis.{AxisAnswer, anti_jitter, limited, no_memory}
 use Rattle.controllers.specs.Axes.{Ask, calculate, calculate_with_derivative, answer, asks, asks_with_derivative, answers, ask, reset}
 use Rattle.controllers.specs.PidAxes.{PidAnswer, joined, calculated, calculated_with_derivative, new_memory, answered, called, after_calls}
-use Rattle.controllers.specs.PidLaws.{HasEntries, own_ask, AxesRememberApart, AxesAnswerApart, EnclosesZero, Bounded, IntegralIsBounded, NewIntegralIsBounded, Inside, OutputsAreLimited, without_limits, NanIsLowerLimit, ResetIsNew, error_of, gains_only, OutputIsScaledBelow, OutputStaysFrom}
+use Rattle.controllers.specs.PidLaws.{HasEntries, own_ask, AxesRememberApart, AxesAnswerApart, EnclosesZero, Bounded, CallBoundsIntegral, IntegralIsBounded, NewIntegralIsBounded, Inside, OutputsAreLimited, without_limits, NanIsLowerLimit, ResetIsNew, error_of, gains_only, OutputIsScaledBelow, OutputStaysFrom}
 use Rattle.controllers.proofs.Entries.{answer_own, ask_at, asks_length, derivative_at, derivatives_length}
 use Rattle.controllers.proofs.AxisLaws.{answer_bounded, answer_inside, answer_limited, answer_gains, anti_jitter_below, anti_jitter_from}
 use Rattle.ieee754.proofs.ClampLaws.{clamp_nan}
@@ -86,14 +86,16 @@ new_bounded n i c z = go n i
     go (suc n) zero = record { least = z.below; most = z.above }
     go (suc n) (suc i) = go n i
 
-pub integral_bounded : IntegralIsBounded
+pub call_bounded : CallBoundsIntegral
 unfolding joined
+call_bounded n (ask asked) cs m i c e z =
+    subst (λ (x : PidAnswer n). IfSome (slice_get x.memory.axes i) (Bounded c)) (sym (answered_joined asked cs m))
+    (each_answer (λ x. x.memory) (Bounded c) (parts_of asked) cs m.axes i c e (λ p a. answer_bounded p c a z))
+call_bounded n reset cs m i c e z = new_bounded n i c z
+
+pub integral_bounded : IntegralIsBounded
 integral_bounded n [] cs m i c e z b = b
-integral_bounded n (ask asked ∷ calls) cs m i c e z b =
-    let before = after_calls calls cs m in
-    subst (λ (x : PidAnswer n). IfSome (slice_get x.memory.axes i) (Bounded c)) (sym (answered_joined asked cs before))
-    (each_answer (λ x. x.memory) (Bounded c) (parts_of asked) cs before.axes i c e (λ p a. answer_bounded p c a z))
-integral_bounded n (reset ∷ calls) cs m i c e z b = new_bounded n i c z
+integral_bounded n (call ∷ calls) cs m i c e z b = call_bounded n call cs (after_calls calls cs m) i c e z
 
 pub new_integral_bounded : NewIntegralIsBounded
 new_integral_bounded n calls cs i c e z = integral_bounded n calls cs new_memory i c e z (new_bounded n i c z)

@@ -10,7 +10,7 @@ use Rattle.controllers.specs.declared.pid.AxisMemory.{AxisMemory}
 use Rattle.controllers.specs.declared.pid.PidMemory.{PidMemory}
 use Rattle.controllers.specs.Axis.{limited}
 use Rattle.controllers.specs.Axes.{Ask, calculate, calculate_with_derivative, answer, Call, ask, reset, alone}
-use Rattle.controllers.specs.PidAxes.{new_memory, answered, after_calls}
+use Rattle.controllers.specs.PidAxes.{new_memory, answered, called, after_calls}
 
 -- ---- the axes do not touch each other
 
@@ -62,7 +62,15 @@ pub record Bounded (c : PidSettings) (a : AxisMemory) : Type 0 where
   pub least : T (le c.gain.ki_err_min a.integrated_error)
   pub most : T (le a.integrated_error c.gain.ki_err_max)
 
--- no list of calls takes an axis's out of bounds that enclose 0.0
+-- a call leaves it within bounds that enclose 0.0, wherever it was
+abbrev pub CallBoundsIntegral : Type 0
+CallBoundsIntegral =
+    (n : ℕ) (call : Call (List Float)) (cs : List PidSettings) (m : PidMemory n) (i : ℕ) (c : PidSettings)
+    → slice_get cs i ≡ Some c
+    → EnclosesZero c
+    → IfSome (slice_get (called call cs m).axes i) (Bounded c)
+
+-- so no list of calls takes it out of them
 abbrev pub IntegralIsBounded : Type 0
 IntegralIsBounded =
     (n : ℕ) (calls : List (Call (List Float))) (cs : List PidSettings) (m : PidMemory n) (i : ℕ) (c : PidSettings)
@@ -71,7 +79,7 @@ IntegralIsBounded =
     → IfSome (slice_get m.axes i) (Bounded c)
     → IfSome (slice_get (after_calls calls cs m).axes i) (Bounded c)
 
--- so a new controller's never leaves them
+-- and a new controller's never leaves them
 abbrev pub NewIntegralIsBounded : Type 0
 NewIntegralIsBounded =
     (n : ℕ) (calls : List (Call (List Float))) (cs : List PidSettings) (i : ℕ) (c : PidSettings)

@@ -1,6 +1,7 @@
 //! What is proved of the PID of N axes over calls: functions that do nothing, for their clauses.
 
-ghost use Rattle.controllers.specs.PidLaws.{AxesRememberApart, AxesAnswerApart, IntegralIsBounded, NewIntegralIsBounded};
+ghost use Rattle.controllers.specs.PidLaws.{AxesRememberApart, AxesAnswerApart};
+ghost use Rattle.controllers.specs.PidLaws.{CallBoundsIntegral, IntegralIsBounded, NewIntegralIsBounded};
 ghost use Rattle.controllers.specs.PidLaws.{OutputsAreLimited, NanIsLowerLimit, ResetIsNew};
 ghost use Rattle.controllers.specs.PidLaws.{OutputIsScaledBelow, OutputStaysFrom};
 
@@ -11,10 +12,10 @@ pub fn axes_are_apart()
     ensures output { AxesAnswerApart }
 {}
 
-/// No list of calls takes an integrated error out of bounds that enclose 0.0.
-#[tactic(auto, using(crate::proofs::AxesLaws::integral_bounded, crate::proofs::AxesLaws::new_integral_bounded))]
+/// A call leaves an integrated error within bounds that enclose 0.0; no list of calls takes it out.
 pub fn integral_is_bounded()
-    ensures kept { IntegralIsBounded }
+    ensures call { CallBoundsIntegral }
+    ensures calls { IntegralIsBounded }
     ensures new { NewIntegralIsBounded }
 {}
 
