@@ -1,7 +1,8 @@
 -- The entries and the length of the lists that the definitions of specs/Axes.antt make.
 use Rattle.std.proofs.Common.{◌≡◌, ◌∙◌, sym, ℕ, zero, suc, ◌<◌, List, [], ◌∷◌, length, get_or, refl, ap, arith, not-suc-le-zero, le_of_suc-le-suc}
 use lib.Ieee.{Float, nan}
-use Rattle.std.specs.Prelude.{None}
+use Rattle.std.specs.Prelude.{None, Some, slice_get}
+use Rattle.std.proofs.lemmas.Option.{none-some, slice_get-get_or, get_or_from_slice_get}
 use Rattle.controllers.specs.declared.pid.PidSettings.{PidSettings}
 use Rattle.controllers.specs.declared.pid.AxisMemory.{AxisMemory}
 use Rattle.controllers.specs.declared.pid.PidMemory.{PidMemory}
@@ -10,16 +11,22 @@ use Rattle.controllers.specs.Axes.{Ask, calculate, calculate_with_derivative, an
 use Rattle.controllers.specs.PidAxes.{joined, calculated, calculated_with_derivative}
 use Rattle.controllers.proofs.Mapped.{mapped}
 
-answer_at : (parts : List Ask) (cs : List PidSettings) (ms : List AxisMemory) (i : ℕ) (part : Ask) (c : PidSettings) (m : AxisMemory) (d : AxisAnswer)
-    → i < length parts → i < length cs → i < length ms → get_or (answers parts cs ms) i d ≡ answer (get_or parts i part) (get_or cs i c) (get_or ms i m)
+-- the answer at i is that of the axis i
+pub answer_own : (parts : List (Ask Float)) (cs : List PidSettings) (ms : List AxisMemory) (i : ℕ) (p : Ask Float) (c : PidSettings) (a : AxisMemory)
+    → slice_get parts i ≡ Some p → slice_get cs i ≡ Some c → slice_get ms i ≡ Some a → slice_get (answers parts cs ms) i ≡ Some (answer p c a)
 unfolding answers
-answer_at [] cs ms i part c m d h k l = absurd (not-suc-le-zero h)
-answer_at (a ∷ parts) [] ms i part c m d h k l = absurd (not-suc-le-zero k)
-answer_at (a ∷ parts) (b ∷ cs) [] i part c m d h k l = absurd (not-suc-le-zero l)
-answer_at (a ∷ parts) (b ∷ cs) (o ∷ ms) zero part c m d h k l = refl
-answer_at (a ∷ parts) (b ∷ cs) (o ∷ ms) (suc i) part c m d h k l = answer_at parts cs ms i part c m d (le_of_suc-le-suc h) (le_of_suc-le-suc k) (le_of_suc-le-suc l)
+answer_own [] cs ms i p c a e f g = absurd (none-some p e)
+answer_own (q ∷ parts) [] ms i p c a e f g = absurd (none-some c f)
+answer_own (q ∷ parts) (d ∷ cs) [] i p c a e f g = absurd (none-some a g)
+answer_own (q ∷ parts) (d ∷ cs) (b ∷ ms) zero p c a e f g = cc
+answer_own (q ∷ parts) (d ∷ cs) (b ∷ ms) (suc i) p c a e f g = answer_own parts cs ms i p c a e f g
 
-answers_length : (parts : List Ask) (cs : List PidSettings) (ms : List AxisMemory) → length parts ≡ length ms → length cs ≡ length ms → length (answers parts cs ms) ≡ length ms
+answer_at : (parts : List (Ask Float)) (cs : List PidSettings) (ms : List AxisMemory) (i : ℕ) (part : Ask Float) (c : PidSettings) (m : AxisMemory) (d : AxisAnswer)
+    → i < length parts → i < length cs → i < length ms → get_or (answers parts cs ms) i d ≡ answer (get_or parts i part) (get_or cs i c) (get_or ms i m)
+answer_at parts cs ms i part c m d h k l =
+    get_or_from_slice_get (answers parts cs ms) i _ d (answer_own parts cs ms i _ _ _ (slice_get-get_or parts i part h) (slice_get-get_or cs i c k) (slice_get-get_or ms i m l))
+
+answers_length : (parts : List (Ask Float)) (cs : List PidSettings) (ms : List AxisMemory) → length parts ≡ length ms → length cs ≡ length ms → length (answers parts cs ms) ≡ length ms
 unfolding answers
 answers_length [] cs [] h k = refl
 answers_length [] cs (m ∷ ms) h k = absurd (omega arith)
@@ -28,7 +35,7 @@ answers_length (a ∷ parts) [] (m ∷ ms) h k = absurd (omega arith)
 answers_length (a ∷ parts) (c ∷ cs) [] h k = refl
 answers_length (a ∷ parts) (c ∷ cs) (m ∷ ms) h k = ap suc (answers_length parts cs ms (omega arith) (omega arith))
 
-pub ask_at : (ss vs : List Float) (dt : Float) (i : ℕ) (part : Ask) (s v : Float) → i < length ss → i < length vs → get_or (asks ss vs dt) i part ≡ calculate (get_or ss i s) (get_or vs i v) dt
+pub ask_at : (ss vs : List Float) (dt : Float) (i : ℕ) (part : Ask Float) (s v : Float) → i < length ss → i < length vs → get_or (asks ss vs dt) i part ≡ calculate (get_or ss i s) (get_or vs i v) dt
 ask_at [] vs dt i part s v h k = absurd (not-suc-le-zero h)
 ask_at (x ∷ ss) [] dt i part s v h k = absurd (not-suc-le-zero k)
 ask_at (x ∷ ss) (y ∷ vs) dt zero part s v h k = refl
@@ -39,7 +46,7 @@ asks_length [] vs dt h = refl
 asks_length (x ∷ ss) [] dt h = absurd (omega arith)
 asks_length (x ∷ ss) (y ∷ vs) dt h = ap suc (asks_length ss vs dt (omega arith))
 
-pub derivative_at : (ss vs ds : List Float) (dt : Float) (i : ℕ) (part : Ask) (s v d : Float) → i < length ss → i < length vs → i < length ds
+pub derivative_at : (ss vs ds : List Float) (dt : Float) (i : ℕ) (part : Ask Float) (s v d : Float) → i < length ss → i < length vs → i < length ds
     → get_or (asks_with_derivative ss vs ds dt) i part ≡ calculate_with_derivative (get_or ss i s) (get_or vs i v) (get_or ds i d) dt
 derivative_at [] vs ds dt i part s v d h k l = absurd (not-suc-le-zero h)
 derivative_at (x ∷ ss) [] ds dt i part s v d h k l = absurd (not-suc-le-zero k)
@@ -64,9 +71,9 @@ EachIs n cs ms os es f =
 settings_of : Float → PidSettings
 settings_of x = record { gain = record { kp = x; ki = x; kd = x; ki_err_min = x; ki_err_max = x }; anti_jitter_thresh = None; output_limits = None }
 
-joined_is : {n : ℕ} (parts : List Ask) (cs : List PidSettings) (ms : List AxisMemory) (os : List Float) (es : List AxisMemory)
+joined_is : {n : ℕ} (parts : List (Ask Float)) (cs : List PidSettings) (ms : List AxisMemory) (os : List Float) (es : List AxisMemory)
     → length parts ≡ n → length cs ≡ n → length ms ≡ n → length os ≡ n → length es ≡ n
-    → ((part : Ask) → EachIs n cs ms os es (λ i. answer (get_or parts i part)))
+    → ((part : Ask Float) → EachIs n cs ms os es (λ i. answer (get_or parts i part)))
     → record { output = os; memory = record { axes = es } } ≡ joined {n = n} (answers parts cs ms)
 unfolding joined
 joined_is {n} parts cs ms os es lp lc lm lo le each =

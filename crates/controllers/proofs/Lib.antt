@@ -3,7 +3,6 @@ pub mod AxisLaws
 pub mod AxesLaws
 mod Mapped
 mod Entries
-pub mod PidAxesLaws
 pub mod BrakeCases
 pub mod WheelCases
 pub mod LagLaws

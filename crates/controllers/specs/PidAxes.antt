@@ -1,10 +1,9 @@
 -- The controller of any number of axes: it answers by the list of answers of specs/Axes.antt, the outputs and the memories side by side.
 use Rattle.std.specs.Prelude.{ℕ, List, [], ◌∷◌, map, replicate, Float}
 use Rattle.controllers.specs.declared.pid.PidSettings.{PidSettings}
-use Rattle.controllers.specs.declared.pid.AxisMemory.{AxisMemory}
 use Rattle.controllers.specs.declared.pid.PidMemory.{PidMemory}
 use Rattle.controllers.specs.Axis.{AxisAnswer, no_memory}
-use Rattle.controllers.specs.Axes.{asks, asks_with_derivative, answers}
+use Rattle.controllers.specs.Axes.{Ask, calculate, calculate_with_derivative, Call, ask, reset, asks, asks_with_derivative, answers}
 
 -- what a call answers, and what the axes remember after it
 pub record PidAnswer (n : ℕ) : Type 0 where
@@ -27,13 +26,19 @@ calculated_with_derivative cs m s v d dt = joined (answers (asks_with_derivative
 unfoldable pub new_memory : {n : ℕ} → PidMemory n
 new_memory {n} = record { axes = replicate n no_memory }
 
--- ---- as a list of axes
+-- ---- calls
 
--- each axis's output and memory, as its answer
-abbrev pub sides : List Float → List AxisMemory → List AxisAnswer
-sides [] ms = []
-sides (o ∷ os) [] = []
-sides (o ∷ os) (m ∷ ms) = record { output = o; memory = m } ∷ sides os ms
+-- what is answered
+abbrev pub answered : {n : ℕ} → Ask (List Float) → List PidSettings → PidMemory n → PidAnswer n
+answered (calculate s v dt) cs m = calculated cs m s v dt
+answered (calculate_with_derivative s v d dt) cs m = calculated_with_derivative cs m s v d dt
 
-abbrev pub answers_of : {n : ℕ} → PidAnswer n → List AxisAnswer
-answers_of a = sides a.output a.memory.axes
+-- what the axes remember after a call
+abbrev pub called : {n : ℕ} → Call (List Float) → List PidSettings → PidMemory n → PidMemory n
+called (ask a) cs m = (answered a cs m).memory
+called reset cs m = new_memory
+
+-- and after a list of calls, the latest first
+abbrev pub after_calls : {n : ℕ} → List (Call (List Float)) → List PidSettings → PidMemory n → PidMemory n
+after_calls [] cs m = m
+after_calls (call ∷ calls) cs m = called call cs (after_calls calls cs m)

@@ -8,27 +8,24 @@ ghost use Rattle.controllers.specs.FirstOrderLag.{axis, x_axis, y_axis, reset_of
 use crate::first_order_lag::axis::Axis;
 use linear::{Vector2f, ZEROS_2};
 
-/// What identifies the lag, by axis.
+// What identifies the lag, by axis.
 #[derive(Clone, Copy)]
-pub struct FirstOrderLagParams {
-    /// The gain at rest.
-    pub k: Vector2f,
-    /// How much the time constant grows with the input's size, in s/(m/s).
-    pub t_slope: Vector2f,
+struct FirstOrderLagParams {
+    // The gain at rest.
+    k: Vector2f,
+    // How much the time constant grows with the input's size, in s/(m/s).
+    t_slope: Vector2f,
 }
 
-/// A first-order lag of two axes, each with a gain, a slope and a state of its own.
+/// A first-order lag of two axes, each with a gain, a slope and a state of its own. It is made by
+/// `encoder::new_from_horizon` alone.
 #[derive(Clone, Copy)]
 pub struct FirstOrderLag {
-    pub params: FirstOrderLagParams,
-    /// The least time constant, in s.
-    pub t_min: f32,
-    /// One timestep, in s.
-    pub dt: f32,
-    /// How many turns `invert` makes.
-    pub n_steps: usize,
-    /// The modelled output.
-    pub state: Vector2f,
+    params: FirstOrderLagParams,
+    t_min: f32,
+    dt: f32,
+    n_steps: usize,
+    state: Vector2f,
 }
 
 impl FirstOrderLag {
@@ -37,6 +34,20 @@ impl FirstOrderLag {
         ensures { result ≡ self.now.state }
     {
         self.state
+    }
+
+    /// The least time constant, in s.
+    pub fn t_min(&self) -> f32
+        ensures { result ≡ self.now.t_min }
+    {
+        self.t_min
+    }
+
+    /// One timestep, in s.
+    pub fn dt(&self) -> f32
+        ensures { result ≡ self.now.dt }
+    {
+        self.dt
     }
 
     /// How many turns `invert` makes.

@@ -16,9 +16,9 @@ fn is_wanted(lag: &FirstOrderLag, header: &[u8]) -> bool
     ensures { result ≡ is_wanted lag.now header.now }
 {
     let steps = word_at(header, 2) as usize;
-    let dt = to_bits(lag.dt) == word_at(header, 3);
-    let t_min = to_bits(lag.t_min) == word_at(header, 4);
-    (lag.n_steps == steps) & dt & t_min
+    let dt = to_bits(lag.dt()) == word_at(header, 3);
+    let t_min = to_bits(lag.t_min()) == word_at(header, 4);
+    (lag.n_steps() == steps) & dt & t_min
 }
 
 // The lag of a header. One of other numbers than the header's is none.
@@ -58,10 +58,11 @@ pub(crate) fn step(lag: &mut FirstOrderLag, call: &[u8]) -> [u32; 12]
     ensures { let told = stepped lag.old call.now in (result ≡ told.words) × (lag.new ≡ told.controller) }
 {
     let output = answer(lag, call);
+    let state = lag.state();
     let mut words = [0; 12];
     words[0] = to_bits(output.x);
     words[1] = to_bits(output.y);
-    words[2] = to_bits(lag.state.x);
-    words[3] = to_bits(lag.state.y);
+    words[2] = to_bits(state.x);
+    words[3] = to_bits(state.y);
     words
 }
