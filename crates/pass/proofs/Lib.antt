@@ -5,3 +5,5 @@ pub mod BatchHolds
 pub mod EveryPass
 pub mod Going
 pub mod Read
+pub mod Running
+pub mod Ticks

@@ -5,3 +5,4 @@ pub mod PlainPass
 pub mod Batch
 pub mod BatchLaws
 pub mod BatchHolds
+pub mod Run

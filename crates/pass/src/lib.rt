@@ -8,3 +8,4 @@ pub mod every_batch; // every_batch.rt: the theorems on batches, in a contract
 pub mod every_list; // every_list.rt: the theorem on lists of blocks, in a contract
 pub mod last; // last.rt: the last line of a pass
 pub mod pass; // pass.rt: a pass, and a block driven in it
+pub mod run; // run.rt: a whole run, from a reader to a writer
