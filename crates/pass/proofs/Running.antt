@@ -1,11 +1,11 @@
--- What holds at each turn of the loop of `drive_all`, what a turn makes of it, and how the run ends.
+-- What holds at each turn of the loop of `drive_all`, what a batch makes of it, and how the run ends.
 use Prim.Native.Nat.{ℕ, ◌*◌, ◌+◌, ◌-◌, ◌/◌, ◌≤◌, ◌<◌}
 use mathlib.Core.Path.{◌≡◌, refl, sym, ap, ◌∙◌, subst}
 use mathlib.Core.Bool.{Bool, true, false}
 use mathlib.Core.Logic.{◌⊎◌, inl, inr}
 use Rattle.std.proofs.Math.Logic.{⊎_map}
 use Rattle.std.proofs.Math.Nat.{eq-or-lt_of_le}
-use mathlib.Core.List.{List, [], ◌∷◌, ◌++◌, append_assoc, append-nil}
+use mathlib.Core.List.{List, [], ◌++◌, append_assoc, append-nil}
 use native.Mathlib.Omega.{arith}
 use lib.Seq.{take-append_seam}
 use lib.ListN.{length, take, drop, length-append, length-drop}
@@ -23,8 +23,8 @@ use Rattle.pass.specs.declared.pass.Pass.TheVariants.{Empty}
 use Rattle.pass.specs.declared.batch.Written.{Written}
 use Rattle.pass.specs.Pass.{totals_of, next_number}
 use Rattle.pass.specs.Batch.{Batched, followed_by, batch_of, batch_into, whole_of, text_of, answer_of}
-use Rattle.pass.specs.Run.{lines_text, run_text, BreaksOff}
-use Rattle.pass.proofs.Batches.{room_is_enough, batches_join, texts_join, text_of_append}
+use Rattle.pass.specs.Run.{blocks_text, run_text, BreaksOff}
+use Rattle.pass.proofs.Batches.{room_is_enough, batches_join, texts_join}
 use Rattle.pass.proofs.Ticks.{left_less}
 
 -- whole blocks were read, none of them is refused, p is the pass after them, and their lines are written
@@ -35,14 +35,14 @@ pub record Running (r₀ r w₀ w : Option (List ℕ)) (p : Pass) : Type 0 where
   pub taken : Consumes r₀ r bytes
   pub stands : p ≡ (whole_of Empty bytes).pass
   pub accepted : (whole_of Empty bytes).over ≡ false
-  pub put : Appends w₀ w (lines_text bytes)
+  pub put : Appends w₀ w (blocks_text bytes)
 
 pub begin : (r w : Option (List ℕ)) → Running r r w w Empty
 unfolding text_of batch_of
 begin r w = record { bytes = []; blocks = 0; whole = refl; taken = Consumes-nil r; stands = refl; accepted = refl; put = Appends-nil w }
 
--- a turn in pass p took these bytes, which fill the buffer or end the input; q, text and refused are what came of them
-pub record Turn (r r' : Option (List ℕ)) (p : Pass) (bytes : List ℕ) (q : Pass) (text : List ℕ) (refused : Bool) : Type 0 where
+-- a batch of bytes that was read and driven in pass p; it fills the buffer or ends the input
+pub record ReadBatch (r r' : Option (List ℕ)) (p : Pass) (bytes : List ℕ) (q : Pass) (text : List ℕ) (refused : Bool) : Type 0 where
   pub took : Consumes r r' bytes
   pub few : length bytes ≤ 65536
   pub full : (length bytes ≡ 65536) ⊎ IsAtEnd r'
@@ -50,13 +50,13 @@ pub record Turn (r r' : Option (List ℕ)) (p : Pass) (bytes : List ℕ) (q : Pa
   pub lines : text ≡ text_of (whole_of p bytes).lines
   pub over : (whole_of p bytes).over ≡ refused
 
--- what `read_full` and `drive_batch` ensure makes a turn
-pub turn : (r r' : Option (List ℕ)) (p : Pass) (n : ℕ) (buf : List ℕ) (q : Pass) (w : Written) (before after : List ℕ)
-    → length buf ≡ 65536 → length before ≡ 65536 → n ≤ length buf → Consumes r r' (take n buf) → (n < length buf → IsAtEnd r')
+-- what `read_full` and `drive_batch` ensure: there is room for the lines of all 128 blocks
+pub read_batch : (r r' : Option (List ℕ)) (p : Pass) (n : ℕ) (buf : List ℕ) (q : Pass) (w : Written) (before after : List ℕ)
+    → length buf ≡ 65536 → 16384 ≤ length before → n ≤ length buf → Consumes r r' (take n buf) → (n < length buf → IsAtEnd r')
     → (w ≡ answer_of (batch_into before p (take n buf))) × (q ≡ (batch_into before p (take n buf)).pass)
     → after ≡ text_of (batch_into before p (take n buf)).lines ++ drop w.len before
-    → Turn r r' p (take n buf) q (take w.len after) w.refused
-turn r r' p n buf q w before after size room within took end value put =
+    → ReadBatch r r' p (take n buf) q (take w.len after) w.refused
+read_batch r r' p n buf q w before after size room within took end value put =
     let bytes = take n buf in
     let long : length bytes ≡ n = length-take-le n buf within in
     let few : length bytes ≤ 65536 = omega arith in
@@ -134,46 +134,46 @@ module _ {r₀ r w₀ w : Option (List ℕ)} {p : Pass} (g : Running r₀ r w₀
   over_from : (c : List ℕ) → (whole_of Empty (g.bytes ++ c)).over ≡ (whole_of p c).over
   over_from c = ap (λ (t : Batched). t.over) (sym (joined c)) ∙ rw g.accepted refl
 
-  lines_from : (c : List ℕ) → lines_text (g.bytes ++ c) ≡ lines_text g.bytes ++ text_of (whole_of p c).lines
+  lines_from : (c : List ℕ) → blocks_text (g.bytes ++ c) ≡ blocks_text g.bytes ++ text_of (whole_of p c).lines
   lines_from c = sym (texts_join g.blocks Empty g.bytes c g.whole g.accepted) ∙ rw g.stands refl
 
-  run_from : (c : List ℕ) → run_text (g.bytes ++ c) ≡ lines_text g.bytes ++ rest_of p c
-  run_from c = rw (pass_from c, lines_from c) (append_assoc (lines_text g.bytes) (text_of (whole_of p c).lines) (last_of p c))
+  run_from : (c : List ℕ) → run_text (g.bytes ++ c) ≡ blocks_text g.bytes ++ rest_of p c
+  run_from c = rw (pass_from c, lines_from c) (append_assoc (blocks_text g.bytes) (text_of (whole_of p c).lines) (last_of p c))
 
   -- a run that breaks off: what was written behind the lines so far, and what is missing
   broken : (r' w' : Option (List ℕ)) (b left more missing : List ℕ) → r' ≡ Some left → Consumes r r' b → length b ≤ 65536
       → Appends w w' more → rest_of p (b ++ left) ≡ more ++ missing → 0 < length missing → BreaksOff (g.bytes ++ (b ++ left)) r' w₀ w'
   broken r' w' b left more missing e took few put cut some =
-      let lines = lines_text g.bytes in
+      let lines = blocks_text g.bytes in
       let whole : run_text (g.bytes ++ (b ++ left)) ≡ (lines ++ more) ++ missing =
       run_from (b ++ left) ∙ ap (λ (l : List ℕ). lines ++ l) cut ∙ sym (append_assoc lines more missing) in
       record {
-        driven = g.bytes;
+        earlier = g.bytes;
         last = b;
         taken = rw e (sym (append_assoc g.bytes b left));
         few = few;
-        written = lines ++ more;
-        put = Appends-trans _ _ _ _ _ g.put put;
+        text = lines ++ more;
+        wrote = Appends-trans _ _ _ _ _ g.put put;
         beginning = starts_with_of_append _ (lines ++ more) missing whole;
         not_all = rw (whole, length-append (lines ++ more) missing) (omega arith);
-        lines = starts_with_of_append _ lines more refl;
+        at_least = starts_with_of_append _ lines more refl;
       }
 
   -- the read failed
   pub read_failed : (r' : Option (List ℕ)) (b : List ℕ) → Consumes r r' b → length b ≤ 65536 → IfSome r₀ (λ input. BreaksOff input r' w₀ w)
   read_failed r' b took few =
       known r₀ r r' g.bytes b _ g.taken took (λ left e.
-        let some : 0 < length (rest_of p (b ++ left)) = rw length-append (omega (arith, last_long (totals_of (whole_of p (b ++ left)).pass))) in
-        broken r' w b left [] (rest_of p (b ++ left)) e took few (Appends-nil w) refl some)
+      let some : 0 < length (rest_of p (b ++ left)) = rw length-append (omega (arith, last_long (totals_of (whole_of p (b ++ left)).pass))) in
+      broken r' w b left [] (rest_of p (b ++ left)) e took few (Appends-nil w) refl some)
 
-  module _ {r' : Option (List ℕ)} {b : List ℕ} {q : Pass} {text : List ℕ} {refused : Bool} (t : Turn r r' p b q text refused) (w' : Option (List ℕ)) where
-    -- the write of the turn's lines failed
+  module _ {r' : Option (List ℕ)} {b : List ℕ} {q : Pass} {text : List ℕ} {refused : Bool} (t : ReadBatch r r' p b q text refused) (w' : Option (List ℕ)) where
+    -- the write of the batch's lines failed
     pub write_failed : AppendsNotAll w w' text → IfSome r₀ (λ input. BreaksOff input r' w₀ w')
     write_failed f =
         known r₀ r r' g.bytes b _ g.taken t.took (λ left e.
-          let begun = lines_begin p b left (⊎_map (λ (x : length b ≡ 65536). x) (none_left r' left e) t.full) in
-          let some : 0 < length (drop f.0 text ++ (begun.0 ++ last_of p (b ++ left))) = rw (length-append, length-drop) (omega (arith, f.1)) in
-          broken r' w' b left (take f.0 text) _ e t.took t.few f.2 (cut_in f.0 _ text begun.0 (last_of p (b ++ left)) (rw t.lines begun.1)) some)
+        let begun = lines_begin p b left (⊎_map (λ (x : length b ≡ 65536). x) (none_left r' left e) t.full) in
+        let some : 0 < length (drop f.0 text ++ (begun.0 ++ last_of p (b ++ left))) = rw (length-append, length-drop) (omega (arith, f.1)) in
+        broken r' w' b left (take f.0 text) _ e t.took t.few f.2 (cut_in f.0 _ text begun.0 (last_of p (b ++ left)) (rw t.lines begun.1)) some)
 
     module _ (put : Appends w w' text) where
       -- the run goes on
@@ -208,16 +208,16 @@ module _ {r₀ r w₀ w : Option (List ℕ)} {p : Pass} (g : Running r₀ r w₀
         pub last_failed : (w'' : Option (List ℕ)) → AppendsNotAll w' w'' (totals_text (totals_of q)) → IfSome r₀ (λ input. BreaksOff input r' w₀ w'')
         last_failed w'' f =
             known r₀ r r' g.bytes b _ g.taken t.took (λ left e.
-              let last = totals_text (totals_of q) in
-              let cut = all_of left e ∙ ap (λ (l : List ℕ). text ++ l) (sym (take-append-drop f.0 last)) ∙ sym (append_assoc text (take f.0 last) (drop f.0 last)) in
-              let some : 0 < length (drop f.0 last) = rw length-drop (omega (arith, f.1)) in
-              broken r' w'' b left (text ++ take f.0 last) (drop f.0 last) e t.took t.few (Appends-trans _ _ _ _ _ put f.2) cut some)
+            let last = totals_text (totals_of q) in
+            let cut = all_of left e ∙ ap (λ (l : List ℕ). text ++ l) (sym (take-append-drop f.0 last)) ∙ sym (append_assoc text (take f.0 last) (drop f.0 last)) in
+            let some : 0 < length (drop f.0 last) = rw length-drop (omega (arith, f.1)) in
+            broken r' w'' b left (text ++ take f.0 last) (drop f.0 last) e t.took t.few (Appends-trans _ _ _ _ _ put f.2) cut some)
 
         pub wrote_all : (w'' : Option (List ℕ)) → Appends w' w'' (totals_text (totals_of q)) → IfSome r₀ (λ input. Appends w₀ w'' (run_text input))
         wrote_all w'' put_last =
             known r₀ r r' g.bytes b _ g.taken t.took (λ left e.
-              subst (Appends w₀ w'') (sym (run_from (b ++ left) ∙ ap (λ (l : List ℕ). lines_text g.bytes ++ l) (all_of left e)))
-              (Appends-trans _ _ _ _ _ g.put (Appends-trans _ _ _ _ _ put put_last)))
+            subst (Appends w₀ w'') (sym (run_from (b ++ left) ∙ ap (λ (l : List ℕ). blocks_text g.bytes ++ l) (all_of left e)))
+            (Appends-trans _ _ _ _ _ g.put (Appends-trans _ _ _ _ _ put put_last)))
 
         pub read_all : IfSome r₀ (λ input. (whole_of Empty input).over ≡ false → IsAtEnd r')
         read_all = known r₀ r r' g.bytes b _ g.taken t.took (λ left e o. go left e o end)

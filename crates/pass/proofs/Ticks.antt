@@ -39,7 +39,7 @@ use Rattle.body_controller.specs.Finish.{finished, finish_of}
 use Rattle.pass.specs.declared.pass.Pass.{Pass}
 use Rattle.pass.specs.declared.pass.Pass.TheVariants.{Empty, Driving}
 use Rattle.pass.specs.Tick.{Ticked, ended_by, if_accepted, steered, planned, ticked_with, ticked}
-use Rattle.pass.specs.Pass.{next_number, driver_of, ticked_by, taken_with, driven_with, driven}
+use Rattle.pass.specs.Pass.{next_number, ticked_by, taken_with, driven_with, driven}
 use Rattle.pass.specs.Batch.{is_refused, first_block, behind_first, Batched, one_block, followed_by, batch_of, whole_of}
 
 -- ---- the calls behind sight count nothing

@@ -13,8 +13,9 @@ use line_text::line::LINE;
 use std::io;
 use std::io::{Read, Write};
 
-/// Reads blocks to the input's end or to the first refusal, and writes their lines and the last line. Blocks are read
-/// 128 at a time. A failed read or write ends the run: then a beginning of that text is written.
+/// Reads blocks to the input's end or to the first refusal, a batch of 128 at a time, and writes their lines and then
+/// the last line. However the reader cuts its bytes, the text is the same. A failed read or write ends the run: then a
+/// beginning of the text is written.
 pub fn drive_all<R: Read, W: Write>(reader: &mut R, writer: &mut W) -> io::Result<()>
     ensures text { OnOk result (IfSome (R.remaining reader.old) (λ input.
         Appends (W.contents writer.old) (W.contents writer.new) (run_text input))) }
@@ -24,9 +25,9 @@ pub fn drive_all<R: Read, W: Write>(reader: &mut R, writer: &mut W) -> io::Resul
         BreaksOff input (R.remaining reader.new) (W.contents writer.old) (W.contents writer.new))) }
 {
     let mut blocks = [0; 65536];
-    let mut out = [0; 65536];
+    let mut out = [0; 16384];
     let mut pass = Pass::Empty;
-    // Each turn that goes on drives 128 ticks more, of which a pass has at most 16,777,216.
+    // It ends: a batch that is not the last has 128 ticks, and a pass at most 16,777,216.
     loop {
         let n = read_full(reader, &mut blocks)?;
         let written = drive_batch(&mut pass, &blocks[..n], &mut out);
