@@ -1,13 +1,14 @@
-//! A buffer filled from a reader, as far as the input goes. A pipe gives its bytes in pieces.
+//! A buffer filled from a reader, as far as the input goes, and bytes written whole. A pipe gives and takes its bytes
+//! in pieces.
 #![tactic(auto)]
 
-ghost use Rattle.std.specs.Prelude.{◌<◌, length, take, IfOk, OnErr};
+ghost use Rattle.std.specs.Prelude.{◌<◌, length, take, IfOk, OnOk, OnErr};
 ghost use Rattle.std.specs.Io.{ReadsAtMost};
-ghost use Rattle.std.specs.Io.KnownBytes.{Consumes, IsAtEnd};
-ghost use Rattle.full_read.specs.FullRead.{ConsumesSome};
+ghost use Rattle.std.specs.Io.KnownBytes.{Appends, Consumes, IsAtEnd};
+ghost use Rattle.full_read.specs.FullRead.{AppendsNotAll, ConsumesSome};
 
 use std::io;
-use std::io::Read;
+use std::io::{ErrorKind, Read, Write};
 
 /// Reads until buf is full or the input ends, and answers how many bytes it put at the start of buf.
 /// The input is at its end where they are fewer than buf has room for.
@@ -27,4 +28,21 @@ pub fn read_full<R: Read>(reader: &mut R, buf: &mut [u8]) -> io::Result<usize>
         done += n;
     }
     Ok(done)
+}
+
+/// Writes all of the bytes. Where a write fails or takes none of them, those before it are written, and never all.
+pub fn write_full<W: Write>(writer: &mut W, bytes: &[u8]) -> io::Result<()>
+    ensures ok { OnOk result (Appends (W.contents writer.old) (W.contents writer.new) bytes.now) }
+    ensures err { OnErr result (AppendsNotAll (W.contents writer.old) (W.contents writer.new) bytes.now) }
+{
+    // std's write_all does not say what it wrote before an Err.
+    let mut written = 0;
+    while written < bytes.len() {
+        let n = writer.write(&bytes[written..])?;
+        if n == 0 {
+            return Err(io::Error::from(ErrorKind::WriteZero));
+        }
+        written += n;
+    }
+    Ok(())
 }

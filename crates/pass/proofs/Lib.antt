@@ -6,3 +6,5 @@ pub mod EveryLine
 pub mod EveryPass
 pub mod Going
 pub mod Read
+pub mod Running
+pub mod Ticks

@@ -6,3 +6,4 @@ pub mod Batch
 pub mod BatchLaws
 pub mod BatchHolds
 pub mod EveryLine
+pub mod Run

@@ -9,3 +9,4 @@ pub mod every_line; // every_line.rt: the theorem on the printed lines, in a con
 pub mod every_list; // every_list.rt: the theorem on lists of blocks, in a contract
 pub mod last; // last.rt: the last line of a pass
 pub mod pass; // pass.rt: a pass, and a block driven in it
+pub mod run; // run.rt: a whole run, from a reader to a writer
