@@ -34,7 +34,7 @@ use Rattle.body_controller.specs.declared.Called.{Called}
 use Rattle.body_controller.specs.declared.Turn.TheVariants as Turns
 use Rattle.body_controller.specs.declared.sight.Sighted.{Sighted}
 use Rattle.body_controller.specs.declared.steer.Steered.{Steered}
-use Rattle.body_controller.specs.InTurn.{if_accepted, from_steer, from_plan}
+use Rattle.body_controller.specs.InTurn.{from_plan}
 use Rattle.body_controller.specs.Turn.{is_sight, is_plan, steered_at}
 use Rattle.body_controller.specs.Controller as Controller
 use Rattle.body_controller.specs.Controller.{started}
@@ -61,6 +61,7 @@ use Rattle.pass.specs.Pass.{driver_of, ticked_by, taken_with, refused_by, driven
 use Rattle.pass.specs.PlainPass.{Passed}
 use Rattle.pass.specs.EveryLine.{was_recovering, seen_within, EachTick, ActiveIsSeen, LinesHold, EveryLine, EveryBatchLine, DrivesWith, OneStart}
 use Rattle.pass.proofs.BatchHolds.{passed}
+use Rattle.pass.proofs.InTurn.{from_plan_ends}
 use Rattle.pass.proofs.Read.{valid_read}
 
 -- whether a controller is recovering
@@ -169,18 +170,6 @@ module _ (start : Start) (seen : ℕ → Bool) (c : BodyController) (r : Reads s
 
 -- ---- the calls of a tick
 
--- behind the calls after sight, P up to steer and Q from it on
-module _ (P Q : BodyController → Type 0) (i : TickInput) (closes : (c : BodyController) → P c → Q c) (plans : (c : BodyController) → P c → P (plan_of c i.plan).controller) (steers : (c : BodyController) → P c → Q (steer_of c i.steer).controller) (finishes : (c : BodyController) → Q c → Q (finish_of c i.finish).controller) where
-  accepted_or : {A B : Type 0} (a : Result A Refusal) (c : BodyController) (next : BodyController → Called B) → Q c → Q (next c).controller → Q (if_accepted a c next).controller
-  accepted_or (Ok x) c next q n = n
-  accepted_or (Err r) c next q n = q
-
-  steered_ends : (c : BodyController) → P c → Q (from_steer c i).controller
-  steered_ends c p = accepted_or (steer_of c i.steer).answer _ (λ d. finish_of d i.finish) (steers c p) (finishes _ (steers c p))
-
-  planned_ends : (c : BodyController) → P c → Q (from_plan c i).controller
-  planned_ends c p = accepted_or (plan_of c i.plan).answer _ (λ d. from_steer d i) (closes _ (plans c p)) (steered_ends _ (plans c p))
-
 -- what sight left is read up to steer, which may end the recovery that the tick began with
 module _ (start : Start) (before : Bool) (seen : ℕ → Bool) where
   abbrev Open : BodyController → Type 0
@@ -207,7 +196,7 @@ module _ (start : Start) (before : Bool) (seen : ℕ → Bool) where
       (within_tick start _ c r (finish i) _ _ (finish_of c i, refl, refl, refl) refl (quiet (λ f. accepted) (λ f. (refl, refl)) (finish_of c i).answer))
 
   tick_closes : (i : TickInput) (c : BodyController) → Open c → Closing (from_plan c i).controller
-  tick_closes i = planned_ends Open Closing i (λ c o. reads_as start _ _ c (λ n. rw (o.1, and-not_self before) refl) o.0) (plan_open i.plan) (steer_closes i.steer) (finish_closes i.finish)
+  tick_closes i = from_plan_ends Open Closing i (λ c o. reads_as start _ _ c (λ n. rw (o.1, and-not_self before) refl) o.0) (plan_open i.plan) (steer_closes i.steer) (finish_closes i.finish)
 
 -- ---- the lines
 
@@ -324,7 +313,7 @@ one_start c block = go (block_read block)
     Same d = d.context.start ≡ c.context.start
 
     tick : (i : TickInput) (a : Result Sighted Refusal) → DrivesWith c.context.start (driven_with (ticked_with a c (sight_of c i.sight).controller i) (Driving c)).pass
-    tick i (Ok s) = planned_ends Same Same i (λ d e. e) (λ d e. (plan_follows d i.plan d.context.start).start ∙ e) (λ d e. (steer_follows d i.steer d.context.start).start ∙ e) (λ d e. (finish_follows d i.finish d.context.start).start ∙ e) _ (sight_follows c i.sight).start
+    tick i (Ok s) = from_plan_ends Same Same i (λ d e. e) (λ d e. (plan_follows d i.plan d.context.start).start ∙ e) (λ d e. (steer_follows d i.steer d.context.start).start ∙ e) (λ d e. (finish_follows d i.finish d.context.start).start ∙ e) _ (sight_follows c i.sight).start
     tick i (Err r) = refl
 
     driver : (b : TickBlock) (a : Result (Unit {0}) Refusal) → DrivesWith c.context.start (driven_with (ticked_by (result_and a (Ok c)) b) (Driving c)).pass

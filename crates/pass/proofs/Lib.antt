@@ -2,6 +2,7 @@
 pub mod Appending
 pub mod Batches
 pub mod BatchHolds
+pub mod InTurn
 pub mod EveryLine
 pub mod EveryPass
 pub mod Going

@@ -31,7 +31,7 @@ use Rattle.body_controller.specs.declared.Called.{Called}
 use Rattle.body_controller.specs.declared.sight.Sighted.{Sighted}
 use Rattle.body_controller.specs.declared.steer.Steered.{Steered}
 use Rattle.body_controller.specs.Controller.{started, refused}
-use Rattle.body_controller.specs.InTurn.{if_accepted, from_steer, from_plan}
+use Rattle.body_controller.specs.InTurn.{from_plan}
 use Rattle.body_controller.specs.Turn.{is_sight, is_plan, planned_at, steered_at}
 use Rattle.body_controller.specs.Sight.{sighted, sight_of}
 use Rattle.body_controller.specs.Plan.{plan_with, plan_of}
@@ -41,6 +41,7 @@ use Rattle.pass.specs.declared.pass.Pass.{Pass}
 use Rattle.pass.specs.declared.pass.Pass.TheVariants.{Empty, Driving}
 use Rattle.pass.specs.Tick.{Ticked, ended_by, ticked_with, ticked}
 use Rattle.pass.specs.Pass.{next_number, ticked_by, taken_with, driven_with, driven}
+use Rattle.pass.proofs.InTurn.{from_plan_ends}
 use Rattle.pass.specs.Batch.{is_refused, first_block, behind_first, Batched, one_block, followed_by, batch_of, whole_of}
 
 -- ---- the calls behind sight count nothing
@@ -48,10 +49,6 @@ use Rattle.pass.specs.Batch.{is_refused, first_block, behind_first, Batched, one
 kept_if : {A : Type 0} (b : Bool) (x y : Called A) (t : Totals) → x.controller.tally ≡ t → y.controller.tally ≡ t → (if b then x else y).controller.tally ≡ t
 kept_if true x y t e f = e
 kept_if false x y t e f = f
-
-kept_if_accepted : {A B : Type 0} (a : Result A Refusal) (c : BodyController) (next : BodyController → Called B) → (next c).controller.tally ≡ c.tally → (if_accepted a c next).controller.tally ≡ c.tally
-kept_if_accepted (Ok x) c next e = e
-kept_if_accepted (Err r) c next e = refl
 
 plan_keeps : (c : BodyController) (i : PlanInput) → (plan_of c i).controller.tally ≡ c.tally
 unfolding plan_of
@@ -77,13 +74,12 @@ finish_keeps c i = go (steered_at c.turn)
     go (Some s) = refl
     go None = refl
 
-planned_keeps : (c : BodyController) (i : TickInput) → (from_plan c i).controller.tally ≡ c.tally
-planned_keeps c i =
-    kept_if_accepted (plan_of c i.plan).answer (plan_of c i.plan).controller (λ (d : BodyController). from_steer d i) (steered_keeps (plan_of c i.plan).controller) ∙ plan_keeps c i.plan
+calls_keep : (c : BodyController) (i : TickInput) → (from_plan c i).controller.tally ≡ c.tally
+calls_keep c i =
+    from_plan_ends Same Same i (λ d e. e) (λ d e. plan_keeps d i.plan ∙ e) (λ d e. steer_keeps d i.steer ∙ e) (λ d e. finish_keeps d i.finish ∙ e) c refl
   where
-    steered_keeps : (d : BodyController) → (from_steer d i).controller.tally ≡ d.tally
-    steered_keeps d =
-        kept_if_accepted (Steer.steer_of d i.steer).answer (Steer.steer_of d i.steer).controller (λ (e : BodyController). finish_of e i.finish) (finish_keeps (Steer.steer_of d i.steer).controller i.finish) ∙ steer_keeps d i.steer
+    Same : BodyController → Type 0
+    Same d = d.tally ≡ c.tally
 
 -- ---- sight counts one, below the limit
 
@@ -111,7 +107,7 @@ tick_counts c i t = go (sight_of c i.sight).answer refl
     go (Ok s) e h =
         let same : ended_by (from_plan d i) c.tally.ticks s.action ≡ t = cc in
         let n = sight_counts c i.sight s e in
-        (n.0, rw (← same) (ap (λ (x : Totals). x.ticks) (planned_keeps d i) ∙ n.1))
+        (n.0, rw (← same) (ap (λ (x : Totals). x.ticks) (calls_keep d i) ∙ n.1))
     go (Err r) e h = cc
 
 -- ---- blocks
