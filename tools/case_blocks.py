@@ -1,18 +1,25 @@
 #!/usr/bin/env python3
-"""Writes what program `cases` reads: passes, one behind the other, each ended by a refused block; and a block, of
-which it turns each bit.
+"""Writes what program `cases` reads: passes, one behind the other, each ended by a refused block; a block, of which it
+turns each bit; and the beginning of the shipped pass with its text, which it reads and writes in pieces.
 
   tools/case_blocks.py > crates/cases/stdin
   tools/case_blocks.py --split DIR     each pass in a file of its own, for the oracle's `ticks`
   tools/case_blocks.py --block > crates/cases/data/block
   tools/case_blocks.py --answers       what is to be printed of that block's bits
+  tools/case_blocks.py --pass > crates/cases/data/pass
+  tools/case_blocks.py --text > crates/cases/data/text
 
-crates/cases/stdout is what `ticks` prints for each pass, then these answers, then the two lines of the tick limit.
+crates/cases/stdout is what `ticks` prints for each pass, then these answers, a line of five dots for each of nine runs,
+and the two lines of the tick limit.
 The passes: the worked block, each refusal alone, every two at once in the order of trial, every spare word and
 flag, and the mistakes that lie close. The answers are worked out here from docs/RULES.md, 'The order of trial',
-apart from the port and from the oracle.
+apart from the port and from the oracle. The pass is cut within its block 130, which is refused with 5; its text is that
+of crates/drive/stdout, and its counts are those of the letters.
 """
 import os, struct, sys
+
+SHIPPED = os.path.join(os.path.dirname(__file__), '..', 'crates', 'drive')
+CUT = 130
 
 FLOATS = {'sighting': 4, 'wheels': 7, 'gyro': 11, 'predicted': 12, 'estimate': 18, 'command': 24, 'fresh': 37, 'next': 46, 'cosine': 55, 'sine': 56,
           'inertia': 57, 'twist_to_wheel': 66, 'accel_to_wheel': 78, 'wheel_to_twist': 90, 'force': 102}
@@ -149,6 +156,18 @@ def answers():
         print(''.join('.123456789abc'[refusal(b)] for b in line))
 
 
+def begun():
+    with open(os.path.join(SHIPPED, 'stdin'), 'rb') as f:
+        return f.read(512 * CUT + 100)
+
+
+def begun_text():
+    with open(os.path.join(SHIPPED, 'stdout')) as f:
+        lines = [next(f) for _ in range(CUT)]
+    letters = [line.split()[1] for line in lines]
+    return ''.join(lines) + '%d ! 5\n' % CUT + ' '.join(str(n) for n in [CUT] + [letters.count(a) for a in 'QGCSTJFR']) + '\n'
+
+
 def main():
     passes = list(refusals()) + list(behaviours())
     passes.append(block(0) + block(1)[:300])  # a short last one
@@ -156,6 +175,10 @@ def main():
         answers()
     elif sys.argv[1:] == ['--block']:
         sys.stdout.buffer.write(whole_block())
+    elif sys.argv[1:] == ['--pass']:
+        sys.stdout.buffer.write(begun())
+    elif sys.argv[1:] == ['--text']:
+        sys.stdout.write(begun_text())
     elif len(sys.argv) > 2:
         for i, p in enumerate(passes):
             with open(os.path.join(sys.argv[2], '%04d' % i), 'wb') as f:

@@ -1,10 +1,11 @@
 //! Program `cases`: cases that are not proved. Standard input has passes one behind the other, each ended by a refused
 //! block; the lines of each are printed, and its last line. Then one block with each of its bits turned and of each
-//! length, and the tick limit, in full.
+//! length, a run in pieces of few bytes and with failures, and the tick limit, in full.
 #![tactic(auto)]
 
 mod bits; // bits.rt: a block with each of its bits turned, and of each length
 mod limit; // limit.rt: a pass of 16,777,217 blocks
+mod runs; // runs.rt: a run over a reader and a writer that take few bytes, or fail
 
 use bits::drive_variants;
 use full_read::read_full;
@@ -13,6 +14,7 @@ use line_text::line::LINE;
 use pass::batch::{Written, drive_block};
 use pass::last::write_last;
 use pass::pass::Pass;
+use runs::drive_runs;
 use std::io;
 use tick_block::layout::BLOCK_BYTES;
 
@@ -62,5 +64,6 @@ fn drive_passes(rt: &HostRuntime) -> io::Result<()> {
 fn main(rt: HostRuntime) -> io::Result<()> {
     drive_passes(&rt)?;
     drive_variants(&rt)?;
+    drive_runs(&rt)?;
     drive_to_limit(&rt)
 }
