@@ -9,7 +9,7 @@ turns each bit; and the beginning of the shipped pass with its text, which it re
   tools/case_blocks.py --pass > crates/cases/data/pass
   tools/case_blocks.py --text > crates/cases/data/text
 
-crates/cases/stdout is what `ticks` prints for each pass, then these answers, a line of five dots for each of nine runs,
+crates/cases/stdout is what `ticks` prints for each pass, then these answers, a line of five dots for each of ten runs,
 and the two lines of the tick limit.
 The passes: the worked block, each refusal alone, every two at once in the order of trial, every spare word and
 flag, and the mistakes that lie close. The answers are worked out here from docs/RULES.md, 'The order of trial',

@@ -1,6 +1,6 @@
 //! Variants of the block in data/, which an empty pass accepts: each of its bits turned, without and with a new check,
 //! and each length up to 1,024 bytes. An empty pass is given each, and a glyph is printed of it.
-use full_read::read_full;
+use full_io::read_full;
 use line_text::line::Line;
 use pass::pass::Pass;
 use std::fs::File;

@@ -8,7 +8,7 @@ mod limit; // limit.rt: a pass of 16,777,217 blocks
 mod runs; // runs.rt: a run over a reader and a writer that take few bytes, or fail
 
 use bits::drive_variants;
-use full_read::read_full;
+use full_io::read_full;
 use limit::drive_to_limit;
 use line_text::line::LINE;
 use pass::batch::{Written, drive_block};

@@ -1,11 +1,13 @@
 //! A whole run over a reader and a writer that take few bytes at a time, or fail in mid-stream. data/pass is the
 //! beginning of the shipped pass, cut within its block 130, and data/text what is to be written for it. A glyph is
-//! printed of each run: a dot where it ended as it must and wrote what it must.
-use full_read::read_full;
+//! printed of each run: a dot where it ended as it must and wrote what it must. The first two runs are of the worked
+//! block and of no input.
+use full_io::read_full;
 use pass::run::drive_all;
 use std::fs::File;
 use std::io;
 use std::io::{ErrorKind, Read, Write};
+use tick_block::layout::BLOCK_BYTES;
 
 // How many bytes a read gives or a write takes at most.
 const PIECES: [usize; 5] = [1, 7, 512, 513, 65536];
@@ -93,6 +95,15 @@ fn write_failing<'a>(pass: &'a [u8], text: &'a [u8]) -> Run<'a> {
     }
 }
 
+// Version 1, k 4, the check of these two, and zeros.
+fn worked_block() -> [u8; BLOCK_BYTES] {
+    let mut block = [0; BLOCK_BYTES];
+    block[0] = 1;
+    block[420] = 4;
+    block[508] = 6;
+    block
+}
+
 // A dot where a run in pieces of this length ended as it must, and wrote all that it must and no more.
 fn glyph(run: Run<'_>, piece: usize) -> u8 {
     let mut giver = Giver {
@@ -126,9 +137,11 @@ fn print_run(rt: &HostRuntime, run: Run<'_>) -> io::Result<()> {
 
 // The first batch is 65,536 bytes long, and its lines 5,778.
 fn print_runs(rt: &HostRuntime, pass: &[u8; 66660], text: &[u8; 5901]) -> io::Result<()> {
+    let worked = b"0 Q - N 00000000 00000000 00000000 00000000\n1 1 0 0 0 0 0 0 0\n";
+    print_run(rt, whole(&worked_block(), worked))?;
+    print_run(rt, whole(&[], b"0 0 0 0 0 0 0 0 0\n"))?;
     print_run(rt, whole(pass, text))?;
     print_run(rt, whole(&pass[512..], b"0 ! 10\n0 0 0 0 0 0 0 0 0\n"))?;
-    print_run(rt, whole(&pass[..0], b"0 0 0 0 0 0 0 0 0\n"))?;
     print_run(rt, read_failing(&pass[..65535], &text[..0]))?;
     print_run(rt, read_failing(&pass[..65536], &text[..5778]))?;
     print_run(rt, read_failing(pass, &text[..5778]))?;

@@ -14,7 +14,7 @@ use Rattle.std.specs.Prelude.{Option, Some, None, IfSome}
 use Rattle.std.specs.Io.KnownBytes.{Appends, Consumes, IsAtEnd}
 use Rattle.std.proofs.KnownBytes.{Appends-nil, Appends-trans, Consumes-nil, Consumes-trans}
 use Rattle.std.proofs.Transfers.{starts_with_of_append}
-use Rattle.full_read.specs.FullRead.{AppendsNotAll}
+use Rattle.full_io.specs.Failed.{AppendsNotAll}
 use Rattle.line_text.specs.Totals.{totals_text}
 use Rattle.tick.specs.declared.tally.Totals.{Totals}
 use Rattle.tick.specs.Tally.{tick_limit}

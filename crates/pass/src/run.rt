@@ -8,7 +8,7 @@ ghost use Rattle.pass.specs.declared.pass.Pass.TheVariants.{Empty};
 use crate::batch::drive_batch;
 use crate::last::write_last;
 use crate::pass::Pass;
-use full_read::{read_full, write_full};
+use full_io::{read_full, write_full};
 use line_text::line::LINE;
 use std::io;
 use std::io::{Read, Write};

@@ -5,7 +5,7 @@ mod mismatch; // mismatch.rt: what is printed of a mismatch
 mod record; // record.rt: an argument with the answer wanted, and how many of a block disagree
 
 use crate::floats::answer::{Difference, Operation, Remainder, Root, Twice, Word};
-use full_read::read_full;
+use full_io::read_full;
 use harness::report::write_line;
 use harness::tally::Tally;
 use std::fs::File;

@@ -14,7 +14,7 @@ use crate::runs::compare::{agrees, show};
 use crate::runs::input::read_record;
 use crate::runs::layout::{Layout, ListOf, layout_of};
 use crate::runs::subject::Subject;
-use full_read::read_full;
+use full_io::read_full;
 use harness::report::write_line;
 use harness::tally::Tally;
 use std::io;

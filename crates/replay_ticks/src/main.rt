@@ -10,7 +10,7 @@ mod put; // put.rt: vectors and marks among the 96 words
 mod state; // state.rt: the words of what the controller keeps
 
 use block::run_block;
-use full_read::read_full;
+use full_io::read_full;
 use std::io;
 
 // As many blocks as 256 passes can drive.

@@ -1,7 +1,7 @@
 //! A record, as it is read.
 ghost use Rattle.std.specs.Prelude.{◌≤◌};
 
-use full_read::read_full;
+use full_io::read_full;
 use std::io;
 
 // The next `size` bytes of the input, if it has them all; zeros stand behind them.

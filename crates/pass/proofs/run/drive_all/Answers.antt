@@ -4,7 +4,7 @@ use mathlib.Core.Logic.{◌⊎◌}
 use Rattle.std.proofs.Math.Logic.{⊎_map}
 use Rattle.std.proofs.lemmas.Result.{on_ok_weaker, on_err_weaker}
 use Rattle.std.specs.Io.KnownBytes.{Appends, IsAtEnd}
-use Rattle.full_read.specs.FullRead.{AppendsNotAll}
+use Rattle.full_io.specs.Failed.{AppendsNotAll}
 use Rattle.pass.proofs.Running.{begin, read_batch, read_failed, write_failed, goes_on, fewer_left, last_failed, wrote_all, read_all, last_text}
 use Rattle.pass.proofs.run.drive_all.Goals as goal
 

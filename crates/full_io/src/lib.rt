@@ -5,7 +5,7 @@
 ghost use Rattle.std.specs.Prelude.{◌<◌, length, take, IfOk, OnOk, OnErr};
 ghost use Rattle.std.specs.Io.{ReadsAtMost};
 ghost use Rattle.std.specs.Io.KnownBytes.{Appends, Consumes, IsAtEnd};
-ghost use Rattle.full_read.specs.FullRead.{AppendsNotAll, ConsumesSome};
+ghost use Rattle.full_io.specs.Failed.{AppendsNotAll, ConsumesSome};
 
 use std::io;
 use std::io::{ErrorKind, Read, Write};

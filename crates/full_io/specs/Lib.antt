@@ -1,0 +1,2 @@
+-- Definitions that the contracts of `full_io` cite.
+pub mod Failed

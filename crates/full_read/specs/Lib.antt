@@ -1,2 +1,0 @@
--- Definitions that the contracts of `full_read` cite.
-pub mod FullRead
