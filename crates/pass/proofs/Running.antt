@@ -51,12 +51,12 @@ pub record ReadBatch (r r' : Option (List ℕ)) (p : Pass) (bytes : List ℕ) (q
   pub over : (whole_of p bytes).over ≡ refused
 
 -- what `read_full` and `drive_batch` ensure: there is room for the lines of all 128 blocks
-pub read_batch : (r r' : Option (List ℕ)) (p : Pass) (n : ℕ) (buf : List ℕ) (q : Pass) (w : Written) (before after : List ℕ)
+pub read_batch : {r r' : Option (List ℕ)} {p q : Pass} {w : Written} (n : ℕ) (buf before after : List ℕ)
     → length buf ≡ 65536 → 16384 ≤ length before → n ≤ length buf → Consumes r r' (take n buf) → (n < length buf → IsAtEnd r')
     → (w ≡ answer_of (batch_into before p (take n buf))) × (q ≡ (batch_into before p (take n buf)).pass)
     → after ≡ text_of (batch_into before p (take n buf)).lines ++ drop w.len before
     → ReadBatch r r' p (take n buf) q (take w.len after) w.refused
-read_batch r r' p n buf q w before after size room within took end value put =
+read_batch {r' = r'} {p = p} {w = w} n buf before after size room within took end value put =
     let bytes = take n buf in
     let long : length bytes ≡ n = length-take-le n buf within in
     let few : length bytes ≤ 65536 = omega arith in

@@ -28,28 +28,28 @@ pub returns-in_err-write_full-clause-err : goal.returns-in_err-write_full-clause
 returns-in_err-write_full-clause-err g c =
     let r = c.in_ok-n.ensures in
     let d = c.drive_batch-written.ensures in
-    let t = read_batch _ _ _ c.in_ok-n.n c.read_full.new.buf _ _ c.loop-n.out _ (omega arith) (omega arith) r.bound.0 r.bytes r.end d.value d.out_after in
+    let t = read_batch c.in_ok-n.n c.read_full.new.buf c.loop-n.out _ (omega arith) (omega arith) r.bound.0 r.bytes r.end d.value d.out_after in
     on_err _ (write_failed c.loop-n.invariant t _ c.in_err-write_full.ensures.err)
 
 pub loop-n-preserved : goal.loop-n-preserved
 loop-n-preserved g c =
     let r = c.in_ok-n.ensures in
     let d = c.drive_batch-written.ensures in
-    let t = read_batch _ _ _ c.in_ok-n.n c.read_full.new.buf _ _ c.loop-n.out _ (omega arith) (omega arith) r.bound.0 r.bytes r.end d.value d.out_after in
+    let t = read_batch c.in_ok-n.n c.read_full.new.buf c.loop-n.out _ (omega arith) (omega arith) r.bound.0 r.bytes r.end d.value d.out_after in
     goes_on c.loop-n.invariant t _ c.in_ok-write_full.ensures.ok (omega (arith, length-take {A = ℕ})) c.if-written.false
 
 pub loop-n-smaller : goal.loop-n-smaller
 loop-n-smaller g c =
     let r = c.in_ok-n.ensures in
     let d = c.drive_batch-written.ensures in
-    let t = read_batch _ _ _ c.in_ok-n.n c.read_full.new.buf _ _ c.loop-n.out _ (omega arith) (omega arith) r.bound.0 r.bytes r.end d.value d.out_after in
+    let t = read_batch c.in_ok-n.n c.read_full.new.buf c.loop-n.out _ (omega arith) (omega arith) r.bound.0 r.bytes r.end d.value d.out_after in
     fewer_left c.loop-n.invariant t _ c.in_ok-write_full.ensures.ok (omega (arith, length-take {A = ℕ})) c.if-written.false
 
 pub returns : goal.returns
 returns g c =
     let r = c.in_ok-n.ensures in
     let d = c.drive_batch-written.ensures in
-    let t = read_batch _ _ _ c.in_ok-n.n c.read_full.new.buf _ _ c.loop-n.out _ (omega arith) (omega arith) r.bound.0 r.bytes r.end d.value d.out_after in
+    let t = read_batch c.in_ok-n.n c.read_full.new.buf c.loop-n.out _ (omega arith) (omega arith) r.bound.0 r.bytes r.end d.value d.out_after in
     let end : (c.drive_batch-written.result.refused ≡ true) ⊎ IsAtEnd (g.R.Read.remaining c.read_full.new.reader) =
     ⊎_map (λ o. o) (λ h. r.end (omega arith)) c.then-written.either in
     let l = c.write_last-len.ensures in
