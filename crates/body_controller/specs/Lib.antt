@@ -1,4 +1,4 @@
--- Definitions that the contracts of `body_controller` cite.
+-- Definitions that the contracts of `body_controller` cite, and a tick's calls in turn, which crates above cite.
 pub mod Turn
 pub mod Controller
 pub mod Sight

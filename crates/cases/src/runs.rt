@@ -1,4 +1,4 @@
-//! A whole run over a reader and a writer that take few bytes at a time, or fail in mid-stream. data/pass is the
+//! A whole run over a reader and a writer that take few bytes at a time, are interrupted, or fail in mid-stream. data/pass is the
 //! beginning of the shipped pass, cut within its block 130, and data/text what is to be written for it. A glyph is
 //! printed of each run: a dot where it ended as it must and wrote what it must. The first two runs are of the worked
 //! block and of no input.
@@ -12,16 +12,21 @@ use tick_block::layout::BLOCK_BYTES;
 // How many bytes a read gives or a write takes at most.
 const PIECES: [usize; 5] = [1, 7, 512, 513, 65536];
 
-// Gives its bytes in pieces; at their end it fails or not.
+// Gives its bytes in pieces, and every other call is interrupted; at their end it fails or not.
 #[derive(Drop)]
 struct Giver<'a> {
     bytes: &'a [u8],
     piece: usize,
+    interrupted: bool,
     fails: bool,
 }
 
 impl Read for Giver<'_> {
     fn read(&mut self, buf: &mut [u8]) -> io::Result<usize> {
+        self.interrupted = !self.interrupted;
+        if self.interrupted {
+            return Err(io::Error::from(ErrorKind::Interrupted));
+        }
         if self.fails && self.bytes.is_empty() {
             return Err(io::Error::from(ErrorKind::BrokenPipe));
         }
@@ -32,17 +37,23 @@ impl Read for Giver<'_> {
     }
 }
 
-// Takes bytes in pieces as long as there is room, and then fails; it holds them to the text that is wanted.
+// Takes bytes in pieces as long as there is room, and then fails; every other call is interrupted. It holds them to the
+// text that is wanted.
 #[derive(Drop)]
 struct Taker<'a> {
     wanted: &'a [u8],
     piece: usize,
+    interrupted: bool,
     room: usize,
     equal: bool,
 }
 
 impl Write for Taker<'_> {
     fn write(&mut self, buf: &[u8]) -> io::Result<usize> {
+        self.interrupted = !self.interrupted;
+        if self.interrupted {
+            return Err(io::Error::from(ErrorKind::Interrupted));
+        }
         if self.room == 0 {
             return Err(io::Error::from(ErrorKind::BrokenPipe));
         }
@@ -109,11 +120,13 @@ fn glyph(run: Run<'_>, piece: usize) -> u8 {
     let mut giver = Giver {
         bytes: run.pass,
         piece,
+        interrupted: false,
         fails: run.read_fails,
     };
     let mut taker = Taker {
         wanted: run.text,
         piece,
+        interrupted: false,
         room: run.room,
         equal: true,
     };

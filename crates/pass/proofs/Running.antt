@@ -27,11 +27,11 @@ use Rattle.pass.specs.Run.{blocks_text, run_text, BreaksOff}
 use Rattle.pass.proofs.Batches.{room_is_enough, batches_join, texts_join}
 use Rattle.pass.proofs.Ticks.{left_less}
 
--- whole blocks were read, none of them is refused, p is the pass after them, and their lines are written
+-- whole batches were read, none of their blocks is refused, p is the pass after them, and their lines are written
 pub record Running (r₀ r w₀ w : Option (List ℕ)) (p : Pass) : Type 0 where
   pub bytes : List ℕ
-  pub blocks : ℕ
-  pub whole : length bytes ≡ blocks * 512
+  pub batches : ℕ
+  pub whole : length bytes ≡ batches * 65536
   pub taken : Consumes r₀ r bytes
   pub stands : p ≡ (whole_of Empty bytes).pass
   pub accepted : (whole_of Empty bytes).over ≡ false
@@ -39,7 +39,7 @@ pub record Running (r₀ r w₀ w : Option (List ℕ)) (p : Pass) : Type 0 where
 
 pub begin : (r w : Option (List ℕ)) → Running r r w w Empty
 unfolding text_of batch_of
-begin r w = record { bytes = []; blocks = 0; whole = refl; taken = Consumes-nil r; stands = refl; accepted = refl; put = Appends-nil w }
+begin r w = record { bytes = []; batches = 0; whole = refl; taken = Consumes-nil r; stands = refl; accepted = refl; put = Appends-nil w }
 
 -- a batch of bytes that was read and driven in pass p; it fills the buffer or ends the input
 pub record ReadBatch (r r' : Option (List ℕ)) (p : Pass) (bytes : List ℕ) (q : Pass) (text : List ℕ) (refused : Bool) : Type 0 where
@@ -124,9 +124,12 @@ none_left : (r : Option (List ℕ)) (left : List ℕ) → r ≡ Some left → Is
 none_left r left e h = subst IsAtEnd e h
 
 module _ {r₀ r w₀ w : Option (List ℕ)} {p : Pass} (g : Running r₀ r w₀ w p) where
+  whole_blocks : length g.bytes ≡ g.batches * 128 * 512
+  whole_blocks = omega (arith, g.whole)
+
   -- what follows the bytes so far, in the pass after them
   joined : (c : List ℕ) → followed_by (whole_of Empty g.bytes) (whole_of p c) ≡ whole_of Empty (g.bytes ++ c)
-  joined c = rw g.stands (batches_join g.blocks Empty g.bytes c g.whole)
+  joined c = rw g.stands (batches_join (g.batches * 128) Empty g.bytes c whole_blocks)
 
   pass_from : (c : List ℕ) → (whole_of Empty (g.bytes ++ c)).pass ≡ (whole_of p c).pass
   pass_from c = ap (λ (t : Batched). t.pass) (sym (joined c)) ∙ rw g.accepted refl
@@ -135,7 +138,7 @@ module _ {r₀ r w₀ w : Option (List ℕ)} {p : Pass} (g : Running r₀ r w₀
   over_from c = ap (λ (t : Batched). t.over) (sym (joined c)) ∙ rw g.accepted refl
 
   lines_from : (c : List ℕ) → blocks_text (g.bytes ++ c) ≡ blocks_text g.bytes ++ text_of (whole_of p c).lines
-  lines_from c = sym (texts_join g.blocks Empty g.bytes c g.whole g.accepted) ∙ rw g.stands refl
+  lines_from c = sym (texts_join (g.batches * 128) Empty g.bytes c whole_blocks g.accepted) ∙ rw g.stands refl
 
   run_from : (c : List ℕ) → run_text (g.bytes ++ c) ≡ blocks_text g.bytes ++ rest_of p c
   run_from c = rw (pass_from c, lines_from c) (append_assoc (blocks_text g.bytes) (text_of (whole_of p c).lines) (last_of p c))
@@ -149,6 +152,8 @@ module _ {r₀ r w₀ w : Option (List ℕ)} {p : Pass} (g : Running r₀ r w₀
       run_from (b ++ left) ∙ ap (λ (l : List ℕ). lines ++ l) cut ∙ sym (append_assoc lines more missing) in
       record {
         earlier = g.bytes;
+        batches = g.batches;
+        whole = g.whole;
         last = b;
         taken = rw e (sym (append_assoc g.bytes b left));
         few = few;
@@ -180,7 +185,7 @@ module _ {r₀ r w₀ w : Option (List ℕ)} {p : Pass} (g : Running r₀ r w₀
       pub goes_on : length b ≡ 65536 → refused ≡ false → Running r₀ r' w₀ w' q
       goes_on full o = record {
         bytes = g.bytes ++ b;
-        blocks = g.blocks + 128;
+        batches = g.batches + 1;
         whole = simp length-append (omega (arith, g.whole, full));
         taken = Consumes-trans _ _ _ _ _ g.taken t.took;
         stands = t.stands ∙ sym (pass_from b);

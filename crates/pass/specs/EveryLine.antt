@@ -1,5 +1,5 @@
--- What each printed V says, by the lines alone: the letters C, T and J, and the marks V and B (docs/RULES.md, 'The lines of drive'). Lists have the
--- latest line first. Proved in proofs/EveryLine.antt.
+-- What each printed V says, by the lines alone: the letters C, T and J, and the marks V and B (docs/RULES.md, 'Every line'). Lists have the latest line
+-- first. Proved in proofs/EveryLine.antt.
 use Rattle.std.specs.Prelude.{ℕ, ◌-◌, ◌/◌, ◌≡◌, Bool, false, not, ◌&&◌, ◌||◌, List, [], ◌∷◌, ◌++◌, reverse, nat_le, Option}
 use Rattle.linear.specs.declared.Vector4f.{Vector4f}
 use Rattle.linear.specs.declared.Vector6f.{Vector6f}

@@ -1,5 +1,5 @@
--- A whole run: what is written of what is read (docs/RULES.md, 'The lines of drive').
-use Rattle.std.specs.Prelude.{ℕ, ◌≤◌, ◌<◌, List, ◌++◌, length, Option, Some}
+-- A whole run: what is written of what is read (docs/RULES.md, 'A whole run').
+use Rattle.std.specs.Prelude.{ℕ, ◌*◌, ◌≤◌, ◌<◌, ◌≡◌, List, ◌++◌, length, Option, Some}
 use Rattle.std.specs.Io.{StartsWith}
 use Rattle.std.specs.Io.KnownBytes.{Appends, Consumes}
 use Rattle.line_text.specs.Totals.{totals_text}
@@ -17,8 +17,10 @@ run_text input = blocks_text input ++ totals_text (totals_of (whole_of Empty inp
 
 -- a run that a failed read or write ended: what the reader lost and has left, and what the writer got
 pub record BreaksOff (input : List ℕ) (left old new : Option (List ℕ)) : Type 0 where
-  -- the bytes of the batches before the last one, and of the last one
+  -- the bytes of the batches before the last one, each of 65,536, and of the last one
   pub earlier : List ℕ
+  pub batches : ℕ
+  pub whole : length earlier ≡ batches * 65536
   pub last : List ℕ
   pub taken : Consumes (Some input) left (earlier ++ last)
   pub few : length last ≤ 65536

@@ -1,5 +1,5 @@
 //! A pass: tick blocks driven one after the other, each with its line of text (docs/RULES.md, 'The tick block' and
-//! 'The lines of drive'), and what is proved of every list of blocks and of every batch.
+//! 'The lines of drive'), a whole run of them, and what is proved of every list of blocks, every line and every batch.
 #![tactic(auto)]
 
 pub mod batch; // batch.rt: a block or a batch of blocks, with the text of their lines

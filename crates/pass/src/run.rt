@@ -1,4 +1,5 @@
-//! A whole run: blocks read, driven and their text written, to the input's end or to the first refusal.
+//! A whole run: blocks read, driven and their text written, to the input's end or to the first refusal (docs/RULES.md,
+//! 'A whole run').
 ghost use Rattle.std.specs.Prelude.{◌≡◌, false, IfSome, OnOk, OnErr};
 ghost use Rattle.std.specs.Io.KnownBytes.{Appends, IsAtEnd};
 ghost use Rattle.pass.specs.Batch.{whole_of};

@@ -9,6 +9,7 @@ use Rattle.controllers.specs.PidAxes.{calculated, joined, new_memory}
 use Rattle.controllers.specs.Brake.{new_brake, brake_of, computed}
 use Rattle.controllers.proofs.BrakeCases as Brake
 use Rattle.controllers.proofs.WheelCases.{fresh_current, AlwaysGiven, worked_out}
+use Rattle.tick.proofs.TickLengthCases as Length
 use Rattle.controllers.specs.EncoderLag.{duration_to_secs, lag_of}
 use Rattle.controllers.proofs.EncoderCases as Lag
 use Rattle.vision.proofs.Cases as Gate
@@ -48,6 +49,7 @@ worked_values = record {
   k_65 = refused_65;
   k_1 = accepted_1;
   k_64 = accepted_64;
+  lag_micros = Length.four_micros;
   lag_4 = lag;
   four_512 = Gate.four_512;
   four_513 = Gate.four_513;

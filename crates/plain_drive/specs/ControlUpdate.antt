@@ -1,4 +1,5 @@
--- `BodyController` of body_controller.rs in its own order, over specs/Firmware.antt, and what the calls have to do with it.
+-- `BodyController` of body_controller.rs in its own order, over specs/Firmware.antt, and what the calls have to do with it (docs/RULES.md,
+-- 'In the Rust's order').
 use Rattle.std.specs.Prelude.{◌≡◌, Bool, false, not, if◌then◌else◌, ◌||◌, ◌==◌, Float, Option, None, Some, Result, Ok, Err}
 use Rattle.std.specs.Result.{result_map_both}
 use Rattle.std.specs.Float.{binary32}
@@ -42,8 +43,8 @@ use Rattle.plain_drive.specs.Firmware.{Firmware, Maneuvered}
 
 -- ---- `control_update`
 
--- what the estimator is asked, the planner where it is asked, and the friction model where it is asked; the state at the end, and the answer: whether
--- twist and acceleration were clamped, or the error that ended it
+-- what the estimator is asked, and the planner and the friction model where they are; the state at the end, and the answer: whether twist and
+-- acceleration were clamped, or the error that ended it
 pub record Updated : Type 0 where
   pub sighted : Sighted
   pub seed : Option Vector6f
@@ -55,6 +56,7 @@ pub record Updated : Type 0 where
 abbrev pub hold_maneuvers : Firmware → PlanInput → Bool
 hold_maneuvers s i = i.halt || is_recovering s.tracking_divergence_state || i.mode == 0 || i.mode == 1
 
+-- else the maneuver runs
 abbrev pub maneuvered : Float → Firmware → ManeuverCommand → TickInput → Maneuvered
 maneuvered dt s cmd i =
     if hold_maneuvers s i.plan
@@ -75,10 +77,11 @@ stop_limited stop out =
     if stop then (if lt STOP_STATE_LINEAR_SPEED_LIMIT linear_speed then record out { x = mul binary32 out.x scale; y = mul binary32 out.y scale } else out)
     else out
 
--- the clamps, and their mark
+-- the clamps
 abbrev pub clamped : Float → Float → Vector3f → Vector3f
 clamped linear angular v = record { x = clamp_within v.x linear; y = clamp_within v.y linear; z = clamp_within v.z angular }
 
+-- an entry is not equal to what it was
 abbrev pub is_clamped : Vector3f → Vector3f → Bool
 is_clamped now before = ne now.x before.x || ne now.y before.y || ne now.z before.z
 
@@ -151,6 +154,7 @@ firmware_in c outputs = record {
   outputs = outputs;
 }
 
+-- what a controller keeps
 abbrev pub firmware_of : BodyController → Firmware
 firmware_of c = firmware_in c.context c.outputs
 
@@ -170,7 +174,12 @@ twist_in (Err r) = None
 abbrev pub finished_as : Updated → Result Finished Refusal
 finished_as to =
     result_map_both
-    (λ (marks : Bool × Bool). record { outputs = to.firmware.outputs; vel_clamped = marks.0; accel_clamped = marks.1; wheels_disabled = to.firmware.wheels_disabled })
+    (λ (marks : Bool × Bool). record {
+      outputs = to.firmware.outputs;
+      vel_clamped = marks.0;
+      accel_clamped = marks.1;
+      wheels_disabled = to.firmware.wheels_disabled;
+    })
     (λ r. r)
     to.answer
 

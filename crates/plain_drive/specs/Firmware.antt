@@ -1,7 +1,8 @@
--- control_context.rs and maneuvers/ as their files have them: method by method under the Rust's names, each statement in the file's
--- order. Nothing of this crate's calls, and nothing of their rules, is cited: float operations, vectors, the PID and equality of commands
--- alone. What the Rust asks crates that are not here is an input: `get_state`, `transform_wheel2twist`, `kf_update`, `make_traj`, `sample`,
--- `z_rotation_mat` and `compute_friction_force`.
+-- control_context.rs and maneuvers/ as their files have them (docs/RULES.md, 'In the Rust's order'): method by method under the Rust's names,
+-- each statement in the file's order. Nothing of the controller's calls, and nothing of their rules, is cited: float operations, vectors,
+-- constants, the PID with its settings, and equality of commands alone. What the Rust asks crates that are not here is an input: `get_state`,
+-- `transform_wheel2twist`, `kf_update`, `make_traj`, `sample`, `z_rotation_mat`, `compute_friction_force`, `i_inv`, `transform_twist2wheel` and
+-- `transform_accel2wheel`. `kf_predict` is asked with `body_accel_out`, and the robot model is reset where `reset` is: both show in the state.
 use Rattle.std.specs.Prelude.{ℕ, ◌+◌, Bool, true, false, not, if◌then◌else◌, ◌&&◌, ◌||◌, ◌==◌, nat_le, pos, Float, Option, None, Some, Result, Ok, Err}
 use Rattle.std.specs.Float.{binary32}
 use Rattle.std.specs.Float.Ieee.{of_int, add, sub, mul, div, lt, le, eq}
@@ -40,8 +41,9 @@ use Rattle.body_controller.specs.declared.sight.Sighted.{Sighted}
 
 -- ---- the state
 
--- `ControlContext` and `ManeuverManager`, and the five outputs of `BodyController`. Of a trajectory it has what `sample` would give now.
--- What is chosen once and what telemetry alone reads is left out; `active` always is the maneuver of `prev_mode`.
+-- `ControlContext` and `ManeuverManager`, and the five outputs of `BodyController`. Of a trajectory it has what `sample` would give now. Left
+-- out are the robot model, what is chosen once, the encoder lag, which the chosen mode does not use, what telemetry alone reads, and `active`,
+-- which always is the maneuver of `prev_mode`.
 pub record Firmware : Type 0 where
   pub pose_pid_controller : PidMemory 3
   pub trajectory : Option Sample
@@ -120,13 +122,9 @@ while_seeding s v =
     let mean_y = div binary32 sum_y nf in
     let var_x = sub binary32 (div binary32 sq_sum_x nf) (mul binary32 mean_x mean_x) in
     let var_y = sub binary32 (div binary32 sq_sum_y nf) (mul binary32 mean_y mean_y) in
+    let steady = lt (square_root binary32 var_x) VISION_SEED_POS_STD_THRESH_M && lt (square_root binary32 var_y) VISION_SEED_POS_STD_THRESH_M in
     record {
-      gate_action =
-          if nat_le VISION_SEED_SAMPLES n
-          then (if lt (square_root binary32 var_x) VISION_SEED_POS_STD_THRESH_M && lt (square_root binary32 var_y) VISION_SEED_POS_STD_THRESH_M
-          then SeedComplete
-          else SeedReset)
-          else Accumulate;
+      gate_action = if nat_le VISION_SEED_SAMPLES n then (if steady then SeedComplete else SeedReset) else Accumulate;
       vision_gate = Gate.Seeding (record { n = n; pos_sum = record { x = sum_x; y = sum_y }; pos_sq_sum = record { x = sq_sum_x; y = sq_sum_y } });
     }
 
@@ -139,6 +137,7 @@ while_tracking dt t v predicted_state =
     then record { gate_action = if le VISION_GATE_BASE_RADIUS_M dist then AcceptJump else Accept; vision_gate = Gate.Tracking zero_float }
     else record { gate_action = if eq t zero_float then FirstReject else Reject; vision_gate = Gate.Tracking (add binary32 t dt) }
 
+-- a sighting, by the match on the gate
 abbrev pub with_vision : Float → VisionGateState → Vector3f → Vector6f → Decided
 with_vision dt (Gate.Seeding s) v predicted_state = while_seeding s v
 with_vision dt (Gate.Tracking t) v predicted_state = while_tracking dt t v predicted_state
@@ -148,6 +147,7 @@ abbrev pub without_vision : Float → VisionGateState → VisionGateState
 without_vision dt (Gate.Seeding s) = Gate.Seeding s
 without_vision dt (Gate.Tracking t) = Gate.Tracking (add binary32 t dt)
 
+-- the whole decision
 abbrev pub gate_decision : Float → VisionGateState → SightInput → Decided
 gate_decision dt g i =
     if i.vision_update then with_vision dt g i.vision_pose_meas i.predicted_state
@@ -157,6 +157,7 @@ gate_decision dt g i =
 abbrev pub dropped : Firmware → Firmware
 dropped s = record s { trajectory = None; prev_cmd = None; pose_pid_controller = new_memory }
 
+-- by the match on the decision
 abbrev pub applied : GateAction → Firmware → Firmware
 applied SeedComplete s = record (dropped s) { vision_gate = Gate.Tracking zero_float }
 applied AcceptJump s = dropped s
@@ -185,6 +186,7 @@ snapped i = record {
   twist = record (vector3_of (product_of i.wheel2twist (entries4 i.wheel_vel_meas))) { z = i.imu_gyro_theta_meas };
 }
 
+-- `get_state` behind the match: what was set, or what the model predicted
 abbrev pub prediction : GateAction → SightInput → Vector6f
 prediction SeedComplete i = snapped i
 prediction AcceptJump i = snapped i
@@ -226,6 +228,7 @@ update_state_estimate dt s i = asked_by (gate_decision dt s.vision_gate i) dt s 
 
 -- ---- `calc_tracking_setpoints`
 
+-- setpoints, and the context that they leave
 pub record Tracked : Type 0 where
   pub setpoints : ManeuverSetpoints
   pub firmware : Firmware
@@ -315,6 +318,7 @@ rested ticks s =
     if nat_le TRACKING_DIVERGENCE_RECOVERY_REST_TICKS ticks then context_reset (record s { tracking_recovery_at_rest_ticks = ticks })
     else record s { tracking_recovery_at_rest_ticks = ticks }
 
+-- by the match on the state
 abbrev pub recovery_from : TrackingDivergenceState → Firmware → Vector4f → Firmware
 recovery_from Normal s wheels =
     if tracking_error_exceeded s.trajectory s.state_estimate

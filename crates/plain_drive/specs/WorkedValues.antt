@@ -8,7 +8,7 @@ use Rattle.ieee754.specs.Hypot.{hypotenuse}
 use Rattle.linear.specs.declared.Vector3f.{Vector3f}
 use Rattle.linear.specs.declared.Vector4f.{Vector4f}
 use Rattle.linear.specs.Vector.{zero_float}
-use Rattle.tick.specs.TickLength.{IsTickLength, seconds_of}
+use Rattle.tick.specs.TickLength.{IsTickLength, seconds_of, micros_of}
 use Rattle.controllers.specs.declared.active_brake.ActiveBrakeController.{ActiveBrakeController}
 use Rattle.controllers.specs.Brake.{brake_of, computed}
 use Rattle.controllers.specs.EncoderLag.{duration_to_secs, lag_of}
@@ -60,6 +60,7 @@ pub record WorkedValues : Type 0 where
   pub k_1 : NumberFor 1 0
   pub k_64 : NumberFor 64 0
   -- k 4: the lag's tick is 976 µs, and it has 10 steps
+  pub lag_micros : micros_of 4 ≡ 976
   pub lag_4 : IsOkAnd (lag_of 4) (λ l. (l.dt ≡ duration_to_secs 976) × (l.n_steps ≡ 10))
   -- k 4: active after 512 ticks, not after 513
   pub four_512 : active_at 4 512 ≡ true

@@ -1,4 +1,5 @@
-//! What the calls of a tick have to do with the Rust's `control_update`: a function that does nothing, for its clauses.
+//! What the calls of a tick have to do with the Rust's `control_update` (docs/RULES.md, 'In the Rust's order'): a function
+//! that does nothing, for its clauses.
 
 ghost use Rattle.plain_drive.specs.ControlUpdate.{CallsAreControlUpdate, NewIsFirmwareNew, ResetIsFirmwareReset};
 

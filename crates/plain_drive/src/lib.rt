@@ -1,4 +1,5 @@
-//! The plain drive, and what holds after every list of the controller's calls; the worked values of the rules.
+//! The plain drive, and what holds after every list of the controller's calls; the Rust's tick in its own order; the
+//! worked values of the rules.
 #![tactic(auto)]
 
 pub mod control_update; // control_update.rt: a tick's calls are the Rust's `control_update`, in a contract
