@@ -196,7 +196,12 @@ module _ (start : Start) (before : Bool) (seen : ℕ → Bool) where
       (within_tick start _ c r (finish i) _ _ (finish_of c i, refl, refl, refl) refl (quiet (λ f. accepted) (λ f. (refl, refl)) (finish_of c i).answer))
 
   tick_closes : (i : TickInput) (c : BodyController) → Open c → Closing (from_plan c i).controller
-  tick_closes i = from_plan_ends Open Closing i (λ c o. reads_as start _ _ c (λ n. rw (o.1, and-not_self before) refl) o.0) (plan_open i.plan) (steer_closes i.steer) (finish_closes i.finish)
+  tick_closes i = from_plan_ends Open Closing i (record {
+    closes = λ c o. reads_as start _ _ c (λ n. rw (o.1, and-not_self before) refl) o.0;
+    plans = plan_open i.plan;
+    steers = steer_closes i.steer;
+    finishes = finish_closes i.finish;
+  })
 
 -- ---- the lines
 
@@ -313,7 +318,12 @@ one_start c block = go (block_read block)
     Same d = d.context.start ≡ c.context.start
 
     tick : (i : TickInput) (a : Result Sighted Refusal) → DrivesWith c.context.start (driven_with (ticked_with a c (sight_of c i.sight).controller i) (Driving c)).pass
-    tick i (Ok s) = from_plan_ends Same Same i (λ d e. e) (λ d e. (plan_follows d i.plan d.context.start).start ∙ e) (λ d e. (steer_follows d i.steer d.context.start).start ∙ e) (λ d e. (finish_follows d i.finish d.context.start).start ∙ e) _ (sight_follows c i.sight).start
+    tick i (Ok s) = from_plan_ends Same Same i (record {
+      closes = λ d e. e;
+      plans = λ d e. (plan_follows d i.plan d.context.start).start ∙ e;
+      steers = λ d e. (steer_follows d i.steer d.context.start).start ∙ e;
+      finishes = λ d e. (finish_follows d i.finish d.context.start).start ∙ e;
+    }) _ (sight_follows c i.sight).start
     tick i (Err r) = refl
 
     driver : (b : TickBlock) (a : Result (Unit {0}) Refusal) → DrivesWith c.context.start (driven_with (ticked_by (result_and a (Ok c)) b) (Driving c)).pass

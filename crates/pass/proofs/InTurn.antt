@@ -9,14 +9,20 @@ use Rattle.body_controller.specs.Steer.{steer_of}
 use Rattle.body_controller.specs.Finish.{finish_of}
 use Rattle.body_controller.specs.InTurn.{if_accepted, from_steer, from_plan}
 
--- P up to steer and Q from it on
-module _ (P Q : BodyController → Type 0) (i : TickInput) (closes : (c : BodyController) → P c → Q c) (plans : (c : BodyController) → P c → P (plan_of c i.plan).controller) (steers : (c : BodyController) → P c → Q (steer_of c i.steer).controller) (finishes : (c : BodyController) → Q c → Q (finish_of c i.finish).controller) where
+-- each call leaves P up to steer and Q from it on
+pub record Leaves (P Q : BodyController → Type 0) (i : TickInput) : Type 0 where
+  pub closes : (c : BodyController) → P c → Q c
+  pub plans : (c : BodyController) → P c → P (plan_of c i.plan).controller
+  pub steers : (c : BodyController) → P c → Q (steer_of c i.steer).controller
+  pub finishes : (c : BodyController) → Q c → Q (finish_of c i.finish).controller
+
+module _ (P Q : BodyController → Type 0) (i : TickInput) (l : Leaves P Q i) where
   accepted_or : {A B : Type 0} (a : Result A Refusal) (c : BodyController) (next : BodyController → Called B) → Q c → Q (next c).controller → Q (if_accepted a c next).controller
   accepted_or (Ok x) c next q n = n
   accepted_or (Err r) c next q n = q
 
   from_steer_ends : (c : BodyController) → P c → Q (from_steer c i).controller
-  from_steer_ends c p = accepted_or (steer_of c i.steer).answer _ (λ d. finish_of d i.finish) (steers c p) (finishes _ (steers c p))
+  from_steer_ends c p = accepted_or (steer_of c i.steer).answer _ (λ d. finish_of d i.finish) (l.steers c p) (l.finishes _ (l.steers c p))
 
   pub from_plan_ends : (c : BodyController) → P c → Q (from_plan c i).controller
-  from_plan_ends c p = accepted_or (plan_of c i.plan).answer _ (λ d. from_steer d i) (closes _ (plans c p)) (from_steer_ends _ (plans c p))
+  from_plan_ends c p = accepted_or (plan_of c i.plan).answer _ (λ d. from_steer d i) (l.closes _ (l.plans c p)) (from_steer_ends _ (l.plans c p))

@@ -76,7 +76,12 @@ finish_keeps c i = go (steered_at c.turn)
 
 calls_keep : (c : BodyController) (i : TickInput) → (from_plan c i).controller.tally ≡ c.tally
 calls_keep c i =
-    from_plan_ends Same Same i (λ d e. e) (λ d e. plan_keeps d i.plan ∙ e) (λ d e. steer_keeps d i.steer ∙ e) (λ d e. finish_keeps d i.finish ∙ e) c refl
+    from_plan_ends Same Same i (record {
+      closes = λ d e. e;
+      plans = λ d e. plan_keeps d i.plan ∙ e;
+      steers = λ d e. steer_keeps d i.steer ∙ e;
+      finishes = λ d e. finish_keeps d i.finish ∙ e;
+    }) c refl
   where
     Same : BodyController → Type 0
     Same d = d.tally ≡ c.tally
