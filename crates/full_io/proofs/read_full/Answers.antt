@@ -27,7 +27,7 @@ loop-preserved g c =
     let got = c.read.new.buf in
     let old = c.loop.invariant in
     elim c.match-read.branch [
-      in-Ok w ↦
+      | in-Ok w ↦
           let filled = take-put_mid_more from (length buf - from) w.in-Ok.n buf got old.1 w.in-Ok.ensures.bound.0 in
           rw w.done-is (search rules, search rules, subst (Consumes _ _) (sym filled) (Consumes-trans _ _ _ _ _ old.2 w.in-Ok.ensures.bytes.0))
       | in-Err w ↦

@@ -19,7 +19,7 @@ loop-preserved g c =
     let from = c.loop.written in
     let all = c.args.bytes.now in
     elim c.match-write.branch [
-      in-Ok w ↦
+      | in-Ok w ↦
           let n = w.in-Ok.n in
           let more = take-add from n all ∙ ap (λ (l : List ℕ). take from all ++ take n l) (sym (take_rest all from)) in
           rw w.written-is (search rules, subst (Appends _ _) (sym more) (Appends-trans _ _ _ _ _ c.loop.invariant.1 w.in-Ok.ensures.bytes))
