@@ -1,7 +1,7 @@
 //! A whole run over a reader and a writer that take few bytes at a time, are interrupted, or fail in mid-stream.
-//! data/pass is the beginning of the shipped pass, cut within its block 130, and data/text what is to be written for it.
-//! A glyph is printed of each run: a dot where it ended as it must and wrote what it must. The first two runs are of the
-//! worked block and of no input.
+//! data/pass is the beginning of the shipped pass, cut within its block 130, and data/text what is to be written for
+//! it. A glyph is printed of each run: a dot where it ended as it must and wrote what it must. The first two runs
+//! are of the worked block and of no input.
 use full_io::read_full;
 use pass::run::drive_all;
 use std::fs::File;
