@@ -1,4 +1,5 @@
 -- Laws and lemmas.
+pub mod Bound
 pub mod Cases
 pub mod Digits
 pub mod Library

@@ -4,3 +4,4 @@ pub mod Puts
 pub mod Pieces
 pub mod Wheels
 pub mod Totals
+pub mod Laws

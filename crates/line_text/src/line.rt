@@ -58,7 +58,7 @@ fn put_line(line: Line, out: &mut [u8; LINE]) -> usize
 
 fn put_tick(t: TickLine, out: &mut [u8; LINE]) -> usize
     ensures puts { Puts out.old 0 (tick_text t) out.new result }
-    ensures upper_bound { result ≤ 128 }
+    ensures upper_bound { result ≤ 53 }
 {
     let at = put_decimal(out, 0, t.number);
     let at = put(out, at, &marks(t.action, t.active, t.recovering));
@@ -68,7 +68,7 @@ fn put_tick(t: TickLine, out: &mut [u8; LINE]) -> usize
 
 fn put_refused(r: RefusedLine, out: &mut [u8; LINE]) -> usize
     ensures puts { Puts out.old 0 (refused_text r) out.new result }
-    ensures upper_bound { result ≤ 128 }
+    ensures upper_bound { result ≤ 24 }
 {
     let at = put_decimal(out, 0, r.number);
     let at = put(out, at, b" !");

@@ -20,7 +20,7 @@ pub fn write_totals(totals: Totals, out: &mut [u8; LINE]) -> usize
 // The ticks, and the counts in the order Q to R.
 fn put_totals(totals: Totals, out: &mut [u8; LINE]) -> usize
     ensures puts { Puts out.old 0 (totals_text totals) out.new result }
-    ensures upper_bound { result ≤ 128 }
+    ensures upper_bound { result ≤ 99 }
 {
     let counts = totals.counts;
     let at = put_decimal(out, 0, totals.ticks);
