@@ -1,7 +1,7 @@
 //! IEEE 754 squareRoot at binary32, by whole numbers: the root of a significand, and half of an
 //! exponent (docs/RULES.md, 'The root').
 
-ghost use Rattle.std.specs.Prelude.{◌≡◌, ◌+◌, ◌*◌, ◌%◌, ◌^◌, ◌<◌, ◌≤◌};
+ghost use Rattle.std.specs.Prelude.{◌≡◌, ◌+◌, ◌*◌, ◌%◌, ◌^◌, ◌<◌, ◌≤◌, IfSome};
 ghost use Rattle.std.specs.Float.{binary32};
 ghost use Rattle.std.specs.Float.Ieee.{of_bits};
 ghost use Rattle.ieee754.specs.Root.{root_of, square_root};
@@ -13,7 +13,7 @@ use std::marker::Model;
 // float's bits b: a cubic for each of 64 intervals. Only speed rests on it, since `Parts::root`
 // tries what it answers.
 fn estimate(b: u32) -> u64
-    ensures { result < 2 ^ 32 }
+    ensures { result < 2 ^ 24 }
 {
     let i = b / 0x4_0000 % 64;
     let d = (b % 0x4_0000) as u64;
@@ -62,21 +62,38 @@ impl Parts {
         f32::from_bits((self.e / 2) * 0x80_0000 + (((s + 1) / 2) as u32))
     }
 
-    // The same by an estimate u of the result's digits, from bits b that end as such a float's do: u
-    // is they if a quarter of n lies between u * u - u and u * u + u, which are the squares of
-    // u - 1/2 and u + 1/2 but for a quarter.
+    // The same if u is the result's digits, which it is if n, a quarter of `whole_root`'s, lies between
+    // u * u - u and u * u + u: these are the squares of u - 1/2 and u + 1/2 but for a quarter.
     #[tactic(auto, using(crate::proofs::Normal::compared_finite, crate::proofs::Normal::compared_word))]
+    fn tried_root(&self, n: u64, u: u64) -> Option<f32>
+        requires quarter { n ≡ self.now.0 * (2 ^ 23 * (1 + self.now.1 % 2)) }
+        requires bounds { (n < 2 ^ 48) × (u ≤ 2 ^ 24) }
+        ensures { IfSome result (λ r. r ≡ root_of binary32 (self.now.0 * 2 ^ (self.now.1 + 23))) }
+    {
+        let square = u * u;
+        if (square < n + u) & (n <= square + u) {
+            Some(f32::from_bits((self.e / 2) * 0x80_0000 + (u as u32)))
+        } else {
+            None
+        }
+    }
+
+    // The same by an estimate u of the result's digits, from bits b that end as such a float's do. u is
+    // one off at most, as counted over every significand at either last digit of the exponent, so its
+    // neighbour is tried before `isqrt` takes its 32 turns: only the proof needs `counted_root`.
     fn root(&self, b: u32) -> f32
         ensures { result ≡ root_of binary32 (self.now.0 * 2 ^ (self.now.1 + 23)) }
     {
         let u = estimate(b);
         let n = (self.m as u64) * (0x80_0000 * (1 + ((self.e % 2) as u64)));
-        let square = u * u;
-        if (square < n + u) & (n <= square + u) {
-            f32::from_bits((self.e / 2) * 0x80_0000 + (u as u32))
-        } else {
-            self.counted_root()
+        if let Some(root) = self.tried_root(n, u) {
+            return root;
         }
+        let neighbour = if u * u < n { u + 1 } else { u - 1 };
+        if let Some(root) = self.tried_root(n, neighbour) {
+            return root;
+        }
+        self.counted_root()
     }
 }
 
