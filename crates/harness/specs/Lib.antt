@@ -1,3 +1,5 @@
 -- Definitions that the contracts of `harness` cite.
+pub mod Digits
 pub mod Line
+pub mod Puts
 pub mod Tally

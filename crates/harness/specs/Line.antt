@@ -1,5 +1,6 @@
 -- A list's line behind its name, as bytes in ASCII: how many records and mismatches, and whether its last record is cut short.
-use Rattle.std.specs.Prelude.{ℕ, Bool, if◌then◌else◌, List, [], ◌∷◌, ◌++◌, decimal}
+use Rattle.std.specs.Prelude.{ℕ, ◌≡◌, Bool, if◌then◌else◌, List, [], ◌∷◌, ◌++◌, decimal}
+use Rattle.harness.specs.Digits.{IsDecimal}
 use Rattle.harness.specs.declared.tally.Tally.{Tally}
 
 -- ` `
@@ -18,3 +19,11 @@ ending cut =
 -- the line, its numbers as `{}` writes them, and a newline
 unfoldable pub line_text : Tally → List ℕ
 line_text t = space ++ decimal t.records ++ mismatches_word ++ decimal t.mismatches ++ ending t.cut_short ++ (10 ∷ [])
+
+-- the same by the digits alone: each number in no more of them than it needs
+pub record IsLine (t : Tally) (text : List ℕ) : Type 0 where
+  pub first : List ℕ
+  pub second : List ℕ
+  pub records : IsDecimal t.records first
+  pub mismatches : IsDecimal t.mismatches second
+  pub is : text ≡ space ++ first ++ mismatches_word ++ second ++ ending t.cut_short ++ (10 ∷ [])

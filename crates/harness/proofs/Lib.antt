@@ -1,0 +1,4 @@
+-- Laws and lemmas.
+pub mod Digits
+pub mod Line
+pub mod Putting
